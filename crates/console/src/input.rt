@@ -1,9 +1,9 @@
 // Standard input, read line by line. What is read and printed is outside every contract.
-use std::io;
-use std::io::Read;
 use super::buffer::LineBuffer;
 use super::command::Command;
 use super::command::parse;
+use std::io;
+use std::io::Read;
 
 // A program's answer to each line's command; a line that is too long counts as one that is not known.
 pub trait Session {

@@ -28,7 +28,10 @@ mod tests {
     fn names_have_1_to_16_bytes(rt: LibcRuntime) -> Result<(), Fail> {
         let mut book = begun(&rt)?;
         check_eq(book.enter(b"", 7), Err(EnterRefusal::NotAName))?;
-        check_eq(book.enter(b"abcdefghijklmnopq", 7), Err(EnterRefusal::NotAName))?;
+        check_eq(
+            book.enter(b"abcdefghijklmnopq", 7),
+            Err(EnterRefusal::NotAName),
+        )?;
         check_eq(book.enter(b"Alarm", 7), Err(EnterRefusal::NotAName))?;
         still_begun(&book)?;
         check_eq(book.enter(b"[bcd_fgh9jklmno]", 7), Ok(()))?;
@@ -38,7 +41,10 @@ mod tests {
     #[test]
     fn the_last_slot_is_accepted(rt: LibcRuntime) -> Result<(), Fail> {
         let mut book = begun(&rt)?;
-        check_eq(book.enter(b"b", 1_073_741_824), Err(EnterRefusal::SlotTooLarge))?;
+        check_eq(
+            book.enter(b"b", 1_073_741_824),
+            Err(EnterRefusal::SlotTooLarge),
+        )?;
         check_eq(book.enter(b"b", u32::MAX), Err(EnterRefusal::SlotTooLarge))?;
         still_begun(&book)?;
         check_eq(book.enter(b"b", 1_073_741_823), Ok(()))?;
@@ -60,7 +66,10 @@ mod tests {
     fn sixty_four_names(rt: LibcRuntime) -> Result<(), Fail> {
         let mut book = Logbook::new(rt.alloc())?;
         for i in 0..64u8 {
-            check_eq(book.enter(&[b'a' + i % 26, b'a' + i / 26], u32::from(i)), Ok(()))?;
+            check_eq(
+                book.enter(&[b'a' + i % 26, b'a' + i / 26], u32::from(i)),
+                Ok(()),
+            )?;
         }
         check_eq(book.enter(b"zz", 70), Err(EnterRefusal::TooManyNames))?;
         check_eq(book.next(b"zz", 0), None)?;
@@ -75,7 +84,10 @@ mod tests {
         for slot in 0..4096u32 {
             check_eq(book.enter(b"alarm", slot), Ok(()))?;
         }
-        check_eq(book.enter(b"alarm", 4096), Err(EnterRefusal::TooManyEntries))?;
+        check_eq(
+            book.enter(b"alarm", 4096),
+            Err(EnterRefusal::TooManyEntries),
+        )?;
         check_eq(book.enter(b"cut", 4096), Err(EnterRefusal::TooManyEntries))?;
         check_eq(book.enter(b"alarm", 4095), Err(EnterRefusal::Repeated))?;
         check_eq(book.entries(), 4096)?;

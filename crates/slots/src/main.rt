@@ -44,10 +44,11 @@ impl Check {
             Ok(()) => {
                 self.names.insert(name.to_vec(self.heap)?)?;
             }
-            Err(why) => self.refused.push(Refused {
-                line: self.lines,
-                number: why.number(),
-            })?,
+            Err(why) => self.refused
+                .push(Refused {
+                    line: self.lines,
+                    number: why.number(),
+                })?,
         }
         Ok(())
     }
