@@ -1,0 +1,20 @@
+use mathlib.Core.Path.{_≡_, refl, ap, _∙_}
+use mathlib.Core.Bool.{false}
+use mathlib.Core.List.{map}
+use Prim.Native.Nat.{_+_}
+use native.Mathlib.Omega.{arith}
+use lib.ListN.{length, length-take}
+use Rattle.extents.specs.Extents.{last-slot, first-start}
+use Rattle.extents.specs.Trace.{hot, runs, runs-of}
+use Rattle.extents.proofs.trace.TraceRunsSource.first_start.Needs as need
+
+pub first-start-in-requires : need.first-start-in-requires
+first-start-in-requires c κs = omega (arith, ap length (c .up-to-last-slot .ensures), length-take (last-slot + 1) (c .args .self .now .samples .now))
+
+pub returns : need.returns
+unfolding runs-of
+returns c =
+    record {
+      extent = c .first-start-in .ensures ∙ ap (λ xs. first-start (runs false 0 (map (hot (c .args .self .now .degrees)) xs)) (c .args .k)) (c .up-to-last-slot .ensures);
+      count = refl;
+    }

@@ -1,0 +1,4 @@
+pub mod Bounds
+pub mod Listings
+pub mod Sets
+pub mod Lawful

@@ -1,0 +1,12 @@
+pub mod Answers
+pub mod Bounds
+pub mod Expressions
+pub mod Faults
+pub mod Grammar
+pub mod Limits
+pub mod Machine
+pub mod Outcomes
+pub mod Queries
+pub mod Reading
+pub mod Scanning
+pub mod Terminals
