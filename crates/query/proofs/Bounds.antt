@@ -23,7 +23,8 @@ use Rattle.query.specs.declared.lexer.Begin.the-variants.{Open, Close, One, No
 use Rattle.query.specs.Terminals.{Terminal, ident, hash, atsign, operator, opens, closes, ends, Placed}
 use Rattle.query.specs.Expressions.{Expr, name, windows, runs, apply, postfix, leaves}
 use Rattle.query.specs.Grammar.{Question, alone, joined, Term, named, windowed, traced, bracket}
-use Rattle.query.specs.Scanning.{Scan, token, fault, digit, space, nameByte, beginOf, nameAt, amountAt, marked, notAt, scanBy, scan, Lexes, none, more}
+use Rattle.postings.specs.Names.{name-byte}
+use Rattle.query.specs.Scanning.{Scan, token, fault, digit, space, beginOf, nameAt, amountAt, marked, notAt, scanBy, scan, Lexes, none, more}
 use Rattle.query.specs.Outcomes.{count, Reads}
 use Rattle.query.specs.Bounds.{Name, Ranged, Bounded}
 use Rattle.query.proofs.Reached.{count-append, cond-is}
@@ -76,13 +77,13 @@ all-leading p [] = tt
 all-leading p (x ∷ xs) =
     cond-both (p x) (1 + leading p xs) 0 (λ n. All (λ b. p b ≡ true) (take n (x ∷ xs))) (λ h. rw (one-add (leading p xs)) (h, all-leading p xs)) (λ h. tt)
 
-name-ranged : (bs : List ℕ) (at : ℕ) → at < length bs → nameByte (getD bs at 0) ≡ true → RangedScan (nameAt (drop at bs) at)
+name-ranged : (bs : List ℕ) (at : ℕ) → at < length bs → name-byte (getD bs at 0) ≡ true → RangedScan (nameAt (drop at bs) at)
 name-ranged bs at h is =
-    let run = leading nameByte (drop at bs) in
-    let first = leading-drop-yes nameByte bs at 0 h is in
-    let long = length-take-le run (drop at bs) (leading-le-length nameByte (drop at bs)) in
+    let run = leading name-byte (drop at bs) in
+    let first = leading-drop-yes name-byte bs at 0 h is in
+    let long = length-take-le run (drop at bs) (leading-le-length name-byte (drop at bs)) in
     cond-both (leb run 16) (token (ident (take run (drop at bs))) at (at + run)) (fault (Over at)) RangedScan
-    (λ k. record { some = omega (arith, first, long); short = omega (arith, leb-true run 16 k, long); spelt = all-leading nameByte (drop at bs) })
+    (λ k. record { some = omega (arith, first, long); short = omega (arith, leb-true run 16 k, long); spelt = all-leading name-byte (drop at bs) })
     (λ k. tt)
 
 module _ (w : ℕ → Terminal) (limit : ℕ) (fits : (n : ℕ) → n ≤ limit → RangedToken (w n)) where
@@ -101,7 +102,7 @@ not-ranged bs at =
     (λ h. tt)
     (λ h. cond-both (eqb (getD bs (at + 1) 0) 62) (token (operator NotContaining) at (at + 2)) (fault (Unknown at)) RangedScan (λ k. tt) (λ k. tt))
 
-begin-ranged : (bs : List ℕ) (at : ℕ) → at < length bs → (k : Begin) → (k ≡ NameBegin → nameByte (getD bs at 0) ≡ true) → RangedScan (scanBy k bs at)
+begin-ranged : (bs : List ℕ) (at : ℕ) → at < length bs → (k : Begin) → (k ≡ NameBegin → name-byte (getD bs at 0) ≡ true) → RangedScan (scanBy k bs at)
 begin-ranged bs at h Open is = tt
 begin-ranged bs at h Close is = tt
 begin-ranged bs at h (One o) is = tt
@@ -126,10 +127,10 @@ skip : (b : Bool) (x y : Begin) → tag x ≡ 0 → cond b x y ≡ NameBegin →
 skip true x y z e = absurd (omega (arith, z, ap tag e))
 skip false x y z e = e
 
-name-begin : (b : ℕ) → beginOf b ≡ NameBegin → nameByte b ≡ true
+name-begin : (b : ℕ) → beginOf b ≡ NameBegin → name-byte b ≡ true
 name-begin b e =
     let last = skip (eqb b 64) _ _ refl (skip (eqb b 35) _ _ refl (skip (eqb b 33) _ _ refl (skip (eqb b 59) _ _ refl (skip (eqb b 124) _ _ refl (skip (eqb b 38) _ _ refl (skip (eqb b 62) _ _ refl (skip (eqb b 60) _ _ refl (skip (eqb b 41) _ _ refl (skip (eqb b 40) _ _ refl e))))))))) in
-    ⊎-elim (λ h. h .0) (λ h. absurd (omega (arith, ap tag (h .1)))) (cond-is (nameByte b) NameBegin Nothing NameBegin last)
+    ⊎-elim (λ h. h .0) (λ h. absurd (omega (arith, ap tag (h .1)))) (cond-is (name-byte b) NameBegin Nothing NameBegin last)
 
 scan-ranged : (bs : List ℕ) (p : ℕ) → RangedScan (scan bs p)
 unfolding scan

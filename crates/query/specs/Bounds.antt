@@ -13,12 +13,12 @@ use lib.ListN.{length}
 use Rattle.std.specs.shelf.Lists.{All}
 use Rattle.query.specs.Limits.{name-max, windows-max, runs-max, leaf-max}
 use Rattle.query.specs.Expressions.{Expr, name, windows, runs, apply, postfix, leaves}
-use Rattle.query.specs.Scanning.{nameByte}
+use Rattle.postings.specs.Names.{name-byte}
 
 pub record Name (s : List ℕ) : Type 0 where
   pub some : 1 ≤ length s
   pub short : length s ≤ name-max
-  pub spelt : All (λ b. nameByte b ≡ true) s
+  pub spelt : All (λ b. name-byte b ≡ true) s
 
 abbrev pub Ranged : Expr → Type 0
 Ranged (name s at) = Name s

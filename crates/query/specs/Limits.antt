@@ -7,13 +7,15 @@
 -- | runs-max    | an `@` has at most this number                        |
 -- | open-max    | at most so many brackets stand open at once           |
 -- | leaf-max    | a query has at most so many names, `#` and `@`        |
-use Prim.Native.Nat.{ℕ}
+use Prim.Native.Nat.{ℕ, _+_}
+use Rattle.extents.specs.Extents.{last-slot}
+use Rattle.postings.specs.Names.{name-limit}
 
 abbrev pub name-max : ℕ
-name-max = 16
+name-max = name-limit
 
 abbrev pub windows-max : ℕ
-windows-max = 1073741824
+windows-max = last-slot + 1
 
 abbrev pub runs-max : ℕ
 runs-max = 3000

@@ -3,7 +3,7 @@
 -- | definition | meaning                                                                       |
 -- |------------|-------------------------------------------------------------------------------|
 -- | Scan       | a terminal with the place where it begins and the place after it, or a fault  |
--- | space, digit, nameByte | tests of a byte                                                   |
+-- | space, digit | tests of a byte                                                             |
 -- | beginOf    | how a byte can begin a token                                                  |
 -- | nameAt     | the longest run of name bytes, a fault where it is too long                   |
 -- | amountAt   | the digits after a `#` or `@`, as far as they go: the number that they write and the place after them, a fault where there is none or the number is too large |
@@ -26,6 +26,7 @@ use Rattle.query.specs.declared.fault.TokenFault.{TokenFault}
 use Rattle.query.specs.declared.fault.TokenFault.the-variants.{Unknown, Over}
 use Rattle.query.specs.declared.lexer.Begin.{Begin}
 use Rattle.query.specs.declared.lexer.Begin.the-variants.{Open, Close, One, Not, Windows, Runs, Name, Nothing}
+use Rattle.postings.specs.Names.{name-byte}
 use Rattle.query.specs.Limits.{name-max, windows-max, runs-max}
 use Rattle.query.specs.Terminals.{Terminal, ident, hash, atsign, operator, opens, closes, ends, Placed}
 
@@ -38,10 +39,6 @@ space b = eqb b 32
 
 abbrev pub digit : ℕ → Bool
 digit b = asciiDigit b
-
--- a to z, 0 to 9, _, [ and ]
-abbrev pub nameByte : ℕ → Bool
-nameByte b = (leb 97 b && leb b 122) || digit b || eqb b 95 || eqb b 91 || eqb b 93
 
 -- ( ) < > & | ; ! # @, a name byte, or none of these
 abbrev pub beginOf : ℕ → Begin
@@ -56,13 +53,13 @@ beginOf b =
     (cond (eqb b 33) Not
     (cond (eqb b 35) Windows
     (cond (eqb b 64) Runs
-    (cond (nameByte b) Name
+    (cond (name-byte b) Name
     Nothing))))))))))
 
 -- bs is the text from the place `at` on
 abbrev pub nameAt : List ℕ → ℕ → Scan
 nameAt bs at =
-    cond (leb (leading nameByte bs) name-max) (token (ident (take (leading nameByte bs) bs)) at (at + leading nameByte bs)) (fault (Over at))
+    cond (leb (leading name-byte bs) name-max) (token (ident (take (leading name-byte bs) bs)) at (at + leading name-byte bs)) (fault (Over at))
 
 -- bs is the text after the mark at the place `at`
 abbrev pub amountAt : ℕ → List ℕ → ℕ → Result (ℕ × ℕ) TokenFault

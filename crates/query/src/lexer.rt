@@ -4,12 +4,14 @@ ghost use Prim.Native.Nat.{_+_, _-_, _<_, _≤_};
 ghost use lib.ListN.{length, drop};
 ghost use Rattle.std.specs.Vec.{made};
 ghost use Rattle.std.specs.shelf.Lists.{leading};
-ghost use Rattle.query.specs.Scanning.{space, nameByte, beginOf, nameAt, amountAt, notAt, scanFrom};
+ghost use Rattle.postings.specs.Names.{name-byte};
+ghost use Rattle.query.specs.Scanning.{space, beginOf, nameAt, amountAt, notAt, scanFrom};
 ghost use Rattle.query.specs.Reading.{scanned, Ahead, Spelt};
 use crate::fault::TokenFault;
 use crate::token::Located;
 use crate::token::Token;
 use extents::operator::Operator;
+use postings::name::is_name_byte;
 
 const NAME_MAX: usize = 16;
 
@@ -49,12 +51,6 @@ fn first(b: u8) -> Begin
     }
 }
 
-fn is_name_byte(b: u8) -> bool
-    ensures { λ r. ⌜ r ≡ nameByte b ⌝ }
-{
-    matches!(char::from(b), 'a'..='z' | '0'..='9' | '_' | '[' | ']')
-}
-
 // The first place from `from` on that holds no space.
 fn skip_spaces(text: &[u8], from: usize) -> usize
     requires { ⌜ from ≤ length (now text) ⌝ }
@@ -72,7 +68,7 @@ fn skip_spaces(text: &[u8], from: usize) -> usize
 fn name_end(text: &[u8], from: usize) -> usize
     requires { ⌜ from ≤ length (now text) ⌝ }
     ensures within { λ r. ⌜ r ≤ length (now (text .entry)) ⌝ }
-    ensures stops { λ r. ⌜ r ≡ from + leading nameByte (drop from (now (text .entry))) ⌝ }
+    ensures stops { λ r. ⌜ r ≡ from + leading name-byte (drop from (now (text .entry))) ⌝ }
 {
     let mut at = from;
     while at < text.len() && is_name_byte(text[at]) {
