@@ -1,14 +1,14 @@
 -- How long the operators' lists are, and what it costs to list them. Assumes nothing.
 use mathlib.Core.Path.{_≡_, refl, sym, ap, subst, _∙_}
 use mathlib.Core.List.{List, [], _∷_, _++_}
-use mathlib.Core.Bool.{Bool, true, false, cond}
+use mathlib.Core.Bool.{Bool, true, false}
 use mathlib.Core.Logic.{_⊎_, inl, inr, ⊎-elim}
-use Prim.Native.Nat.{ℕ, _+_, _-_, _*_, _<_, _≤_, min, max}
+use Prim.Native.Nat.{ℕ, _+_, _-_, _*_, _≤_, max}
 use native.Mathlib.Omega.{arith}
-use lib.Dec.{leb, eqb}
+use lib.Dec.{leb}
 use lib.ListN.{length, length-append}
 use Rattle.std.specs.shelf.Lists.{All, kept-by}
-use Rattle.std.proofs.shelf.Tests.{both-ways, leb-true, leb-false, le-leb, lt-leb, cases-lt}
+use Rattle.std.proofs.shelf.Tests.{both-ways, leb-true, le-leb, lt-leb, cases-lt}
 use Rattle.std.proofs.shelf.Elements.{all-weaker}
 use Rattle.std.specs.declared.option.Option.{Option}
 use Rattle.std.specs.declared.option.Option.the-variants.{Some, None}
@@ -17,11 +17,10 @@ use Rattle.containment.specs.declared.next.Next.{Next}
 use Rattle.containment.specs.declared.next.Next.the-variants.{Here, Nowhere, ByStart, ByEnd}
 use Rattle.containment.specs.Nexts.{here}
 use Rattle.extents.specs.declared.access.Access.{Access}
-use Rattle.extents.specs.declared.access.Access.the-variants.{FirstStart, FirstEnd, LastEnd, LastStart}
+use Rattle.extents.specs.declared.access.Access.the-variants.{FirstStart, FirstEnd, LastEnd}
 use Rattle.combination.specs.BothOf.{both-of, hulls, pair-calls, both-first-start-calls}
-use Rattle.extents.specs.Counts.{capped}
-use Rattle.extents.specs.Extents.{Mem, Before, ExtentList, find-first, first-start, last-end}
-use Rattle.extents.specs.Finds.{by-test, none-some, all-mem, find-passes, find-mem, find-same, mem-append, append-mem-left, append-mem-right, mem-kept, kept-mem, Pairwise, rising-pairs}
+use Rattle.extents.specs.Extents.{Mem, Before, ExtentList, find-first, first-start}
+use Rattle.extents.specs.Finds.{by-test, none-some, all-mem, find-passes, find-mem, find-same, mem-append, append-mem-left, append-mem-right, mem-kept, kept-mem}
 use Rattle.combination.specs.Followed.{followed, then-calls, followed-first-start-calls}
 use Rattle.combination.specs.Followeds.{followed-rising, followed-least}
 use Rattle.containment.specs.Soundness.{kept-rising}
@@ -30,7 +29,7 @@ use Rattle.combination.specs.Hulls.{mem-hulls, both-rising}
 use Rattle.operators.specs.Listing.{list-calls, Cheap}
 use Rattle.combination.specs.OneOf.{one-of, one-first-start-calls}
 use Rattle.combination.specs.OneOfs.{one-rising}
-use Rattle.containment.specs.Filter.{Judged, kept, ahead, Past, Sound, Ahead, walk-calls, ask-ahead, ahead-calls}
+use Rattle.containment.specs.Filter.{Judged, kept, ahead, Ahead, walk-calls, ask-ahead, ahead-calls}
 use Rattle.containment.proofs.Filters.{reached, ahead-monotone, past-of, kept-of, is-here, walk-calls-over}
 
 -- Lengths: different starts, each found among some numbers, are no more than those.

@@ -5,7 +5,7 @@ ghost use Prim.Native.Nat.{_+_, _-_, _<_, _≤_, min};
 ghost use lib.ListN.{length, take, drop};
 ghost use Rattle.std.specs.Options.{mapped};
 ghost use Rattle.std.specs.shelf.Maps.{nth};
-ghost use Rattle.query.specs.Queries.{steps, shown, stored};
+ghost use Rattle.query.specs.Queries.{steps, shown, storedKind};
 use extents::operator::Operator;
 
 // A query of 32 names, `#` and `@` has 31 operators.
@@ -40,9 +40,9 @@ pub(crate) enum Kind {
 }
 
 #[derive(Clone, Copy)]
-pub(crate) struct Stored {
-    pub(crate) kind: Kind,
-    pub(crate) place: usize,
+struct Stored {
+    kind: Kind,
+    place: usize,
 }
 
 // Left operand, right operand, operator.
@@ -80,13 +80,13 @@ impl<'a> Query<'a> {
     }
 
     // One more step at the end.
-    pub(crate) fn push(&mut self, step: Stored)
+    pub(crate) fn push(&mut self, kind: Kind, place: usize)
         requires { ⌜ now self .len < 63 ⌝ }
-        ensures items { λ _. ⌜ steps (now (self .exit)) ≡ steps (now (self .entry)) ++ stored (now (now (self .entry) .text)) step ∷ [] ⌝ }
+        ensures items { λ _. ⌜ steps (now (self .exit)) ≡ steps (now (self .entry)) ++ (storedKind (now (now (self .entry) .text)) place kind, place) ∷ [] ⌝ }
         ensures long { λ _. ⌜ now (self .exit) .len ≡ now (self .entry) .len + 1 ⌝ }
         ensures same { λ _. ⌜ now (self .exit) .text ≡ now (self .entry) .text ⌝ }
     {
-        self.steps[self.len] = step;
+        self.steps[self.len] = Stored { kind, place };
         self.len += 1;
     }
 

@@ -14,7 +14,6 @@ use crate::fault::TokenFault;
 use crate::lexer::next_token;
 use crate::query::Kind;
 use crate::query::Query;
-use crate::query::Stored;
 use crate::token::Located;
 use crate::token::Token;
 
@@ -53,12 +52,18 @@ impl<'a> Reader<'a> {
             let Token::Operator(operator) = found.token else {
                 return Ok(found);
             };
-            self.term(depth)?;
-            self.query.push(Stored {
-                kind: Kind::Apply(operator),
-                place: found.place,
-            });
+            self.operand(depth)?;
+            self.query.push(Kind::Apply(operator), found.place);
         }
+    }
+
+    // An operator's right operand: one term, since operators group from the left.
+    fn operand(&mut self, level: u8) -> Result<(), ReadFault>
+        requires sound { ⌜ Sound (now self) ⌝ }
+        requires shallow { ⌜ level ≤ 16 ⌝ }
+        ensures { λ r. ⌜ Cases r (λ _. ReadTerm (now (self .entry)) (now (self .exit)) level) (λ e. Fails (bytes (now (self .entry))) (now (self .entry) .at) (before-term level (now (self .entry) .terms)) e) ⌝ }
+    {
+        self.term(level)
     }
 
     // A name, a `#`, an `@`, or a question in brackets.
@@ -88,10 +93,7 @@ impl<'a> Reader<'a> {
             return Err(ReadFault::TooMany(found.place));
         }
         self.terms += 1;
-        self.query.push(Stored {
-            kind,
-            place: found.place,
-        });
+        self.query.push(kind, found.place);
         Ok(())
     }
 }

@@ -1,11 +1,10 @@
 use mathlib.Core.Path.{_≡_, refl, sym, ap, _∙_}
-use mathlib.Core.List.{_∷_, [], _++_}
+use mathlib.Core.List.{_++_}
 use Prim.Native.Nat.{_+_, _<_}
 use native.Mathlib.Omega.{arith}
 use lib.ListN.{length, length-set, take}
 use Rattle.std.specs.declared.option.Option.the-variants.{Some, None}
 use Rattle.extents.specs.declared.access.Access.the-variants.{FirstStart}
-use Rattle.extents.specs.Counts.{capped}
 use Rattle.extents.specs.Extents.{first-start}
 use Rattle.extents.specs.Finds.{mem-proper}
 use Rattle.operators.specs.Listing.{list-calls}

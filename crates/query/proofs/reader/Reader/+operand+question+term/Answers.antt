@@ -6,10 +6,10 @@ use lib.ListN.{length}
 use Rattle.std.proofs.shelf.Results.{err-from-errBy}
 use Rattle.query.specs.Terminals.{ident, Leaf}
 use Rattle.query.specs.Queries.{steps, storedKind}
-use Rattle.query.specs.Reading.{bytes, terminal, SpeltToken}
+use Rattle.query.specs.Reading.{bytes, terminal, weight, SpeltToken}
 use Rattle.query.proofs.Walk.{sofar-none, so-within, so-fails, so-ends, so-sound, so-room, so-fails-term, so-more, fails-token, too-deep, inner-fails, not-closed, closed, unexpected, too-many, one-term, not-operator, unexpected-after, unexpected-before, no-leaf}
-use Rattle.query.proofs.reader.Reader.+question+term.Needs as need
-use Rattle.query.proofs.reader.Reader.+question+term.Needs.{term-Joined-found, term-in-Name, term-in-Windows, term-in-Runs}
+use Rattle.query.proofs.reader.Reader.+operand+question+term.Needs as need
+use Rattle.query.proofs.reader.Reader.+operand+question+term.Needs.{term-Joined-found, term-in-Name, term-in-Windows, term-in-Runs}
 
 pub question-loop-found-holds : need.question-loop-found-holds
 question-loop-found-holds t c =
@@ -28,27 +28,27 @@ question-returns-in-Break-found t c =
 pub question-returns-in-rest : need.question-returns-in-rest
 question-returns-in-rest t c = so-ends (c .in-Continue-term .ensures tt) (c .loop-found .inv) (c .in-Continue-found .ensures tt) (not-operator _ (c .in-rest .not-Operator))
 
-pub question-term-requires-in-loop-found : need.question-term-requires-in-loop-found
-question-term-requires-in-loop-found t c κs =
+pub question-operand-requires : need.question-operand-requires
+question-operand-requires t c κs =
     let first = c .in-Continue-term .ensures tt in
     let so = c .loop-found .inv in
     let taken = c .in-Continue-found .ensures tt in (
-      omega (arith, c .measured, taken .moved, taken .further, so .further, first .onward .further, ap (λ q. length (q .text .now)) (taken .query), ap length (so .same), ap length (first .onward .same)),
+      omega (arith, c .measured, taken .moved, taken .further, taken .within, ap weight (c .in-Operator .is), so .further, first .onward .further, ap (λ q. length (q .text .now)) (taken .query), ap length (so .same), ap length (first .onward .same)),
       (so-sound first so taken (c .pre .sound), c .pre .shallow),
     )
 
-pub question-returns-in-Break-term-2 : need.question-returns-in-Break-term-2
-question-returns-in-Break-term-2 t c =
-    let p = err-from-errBy (c .from-residual-in-Break-term-2 .result) (c .from-residual-in-Break-term-2 .ensures .1) in
-    rw (p .1, p .2) (so-fails-term (c .in-Continue-term .ensures tt) (c .loop-found .inv) (c .in-Continue-found .ensures tt) (c .in-Operator .is) (c .in-Break-term-2 .ensures tt))
+pub question-returns-in-Break-operand : need.question-returns-in-Break-operand
+question-returns-in-Break-operand t c =
+    let p = err-from-errBy (c .from-residual-in-Break-operand .result) (c .from-residual-in-Break-operand .ensures .1) in
+    rw (p .1, p .2) (so-fails-term (c .in-Continue-term .ensures tt) (c .loop-found .inv) (c .in-Continue-found .ensures tt) (c .in-Operator .is) (c .in-Break-operand .ensures tt))
 
 pub question-push-requires : need.question-push-requires
 question-push-requires t c κs =
-    so-room (c .in-Continue-term .ensures tt) (c .loop-found .inv) (c .in-Continue-found .ensures tt) (c .pre .sound) (c .in-Continue-term-2 .ensures tt)
+    so-room (c .in-Continue-term .ensures tt) (c .loop-found .inv) (c .in-Continue-found .ensures tt) (c .pre .sound) (c .in-Continue-operand .ensures tt)
 
 pub question-loop-found-again : need.question-loop-found-again
 question-loop-found-again t c =
-    so-more (c .in-Continue-term .ensures tt) (c .loop-found .inv) (c .in-Continue-found .ensures tt) (c .in-Operator .is) (c .term-in-loop-found .last .self) _ (c .in-Continue-term-2 .ensures tt) (ap (λ r. r .now) (c .push .ensures .same)) refl refl (c .push .ensures .long) (c .push .ensures .items)
+    so-more (c .in-Continue-term .ensures tt) (c .loop-found .inv) (c .in-Continue-found .ensures tt) (c .in-Operator .is) (c .operand .last .self) _ (c .in-Continue-operand .ensures tt) (ap (λ r. r .now) (c .push .ensures .same)) refl refl (c .push .ensures .long) (c .push .ensures .items)
 
 pub term-returns-in-Break-found : need.term-returns-in-Break-found
 term-returns-in-Break-found t c =
