@@ -2,9 +2,9 @@
 --
 -- | definition     | meaning                                                                   |
 -- |----------------|---------------------------------------------------------------------------|
--- | count          | how many names, `#` and `@` stand among tokens                            |
--- | opened         | how many brackets stand open after tokens, d standing open before them    |
--- | Shallow        | no bracket is opened while 16 stand open, d standing open before them     |
+-- | weigh, count   | how many names, `#` and `@` a terminal is; stand among tokens             |
+-- | open-by, opened | how many brackets stand open after a terminal; after tokens, d standing open before |
+-- | Enters, Shallow | the terminal opens no bracket while 16 stand open; no token does, d standing open before |
 -- | Reads bs e     | the tokens of the whole text bs are a question that says e, within the limits |
 -- | Faultless ts   | the tokens ts have no fault: some question begins with them, and they keep the limits |
 -- | Follows ts w at | the terminal w at the place `at` may follow ts: some question begins with ts and it; for the end, ts are a question |

@@ -7,8 +7,10 @@
 -- | beginOf    | how a byte can begin a token                                                  |
 -- | nameAt     | the longest run of name bytes, a fault where it is too long                   |
 -- | amountAt   | the digits after a `#` or `@`, as far as they go: the number that they write and the place after them, a fault where there is none or the number is too large |
+-- | marked     | a `#` or an `@` with its number, as a scan                                    |
 -- | notAt      | the operator that begins with `!`                                             |
--- | scan bs p  | what stands in the text bs from the place p on, spaces passed over            |
+-- | scanBy, scanAt | what begins at a place that holds no space; past the last byte, the end   |
+-- | scanFrom, scan | what stands in a text from a place on, spaces passed over; `scan` is kept shut |
 -- | Lexes bs p ts q | ts are the tokens of bs from the place p to the place q                  |
 use mathlib.Core.Path.{_≡_}
 use mathlib.Core.Bool.{Bool, cond, _&&_, _||_}
