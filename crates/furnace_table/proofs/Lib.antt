@@ -1,0 +1,5 @@
+mod Answering
+mod Entries
+mod Ledgers
+mod Lines
+mod Tokens
