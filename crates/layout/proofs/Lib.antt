@@ -1,0 +1,4 @@
+pub mod Trims
+pub mod Searches
+pub mod Tables
+pub mod OneForm
