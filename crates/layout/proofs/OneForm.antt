@@ -1,19 +1,19 @@
 -- No two byte strings obey the layout and mean the same. Assumes nothing.
 use mathlib.Core.Path.{_≡_, refl, sym, ap, subst, _∙_}
 use mathlib.Core.List.{List, [], _∷_}
-use mathlib.Core.Bool.{Bool, true, false, cond, true≢false}
+use mathlib.Core.Bool.{Bool, true, false, cond}
 use mathlib.Core.Logic.{⊎-elim}
 use Prim.Native.Nat.{ℕ, suc, zero, _+_, _-_, _*_, _/_, _%_, _<_, _≤_}
 use native.Mathlib.Nat.{mod-add-div, mod-lt}
 use native.Mathlib.Omega.{arith}
 use lib.Dec.{eqb}
-use lib.ListN.{length, getD, take, drop}
-use Rattle.std.proofs.shelf.Lists.{getD-take, getD-drop, ext-getD, length-take}
-use Rattle.std.proofs.shelf.Tests.{cases-lt, cases-order, cases-bool}
+use lib.ListN.{length, getD, drop}
+use Rattle.std.proofs.shelf.Lists.{getD-take, getD-drop, ext-getD}
+use Rattle.std.proofs.shelf.Tests.{cases-lt, cases-order}
 use Rattle.postings.specs.Lists.{PostingLists}
 use Rattle.layout.specs.Fields.{le16, le32, mark, names, span, total, row-at, trim, name-field, name, earlier, count, slot}
 use Rattle.layout.specs.Layout.{counted, Obeys}
-use Rattle.layout.specs.Meaning.{Row, row, row-slots, rows, posted, meaning}
+use Rattle.layout.specs.Meaning.{Row, row, row-slots, rows, meaning}
 use Rattle.layout.specs.Obeyed.{located}
 use Rattle.layout.specs.Posted.{length-rows, getD-rows, length-row, getD-row}
 use Rattle.layout.proofs.Tables.{none, rows-ranked, ranked-same}

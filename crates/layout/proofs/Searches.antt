@@ -1,9 +1,9 @@
 -- How far a search by halving has come, in bytes that obey the layout. Assumes nothing.
-use mathlib.Core.Path.{_≡_, refl, sym, ap, subst, _∙_}
-use mathlib.Core.Bool.{Bool, true, false, true≢false}
+use mathlib.Core.Path.{_≡_, sym, ap, subst, _∙_}
+use mathlib.Core.Bool.{true, false}
 use mathlib.Core.List.{List, [], _∷_}
-use mathlib.Core.Logic.{_⊎_, inl, inr, ⊎-elim}
-use Prim.Native.Nat.{ℕ, suc, zero, _+_, _-_, _*_, _<_, _≤_}
+use mathlib.Core.Logic.{_⊎_, ⊎-elim}
+use Prim.Native.Nat.{ℕ, suc, zero, _+_, _-_, _<_, _≤_}
 use native.Mathlib.Omega.{arith}
 use lib.ListN.{length, getD}
 use Rattle.std.specs.declared.option.Option.the-variants.{Some, None}
@@ -42,9 +42,6 @@ pub record Between (bs n : List ℕ) (low high : ℕ) : Type 0 where
   pub inside : high ≤ names bs
   pub under : (i : ℕ) → i < low → before (name bs i) n ≡ true
   pub above : (i : ℕ) → high ≤ i → i < names bs → before n (name bs i) ≡ true
-
-pub between-all : (bs n : List ℕ) (high : ℕ) → high ≡ names bs → Between bs n 0 high
-between-all bs n high e = record { ordered = omega arith; inside = omega arith; under = λ i h. absurd (omega arith); above = λ i h l. absurd (omega arith) }
 
 pub between-right : (bs n : List ℕ) (low high mid : ℕ) → Obeys bs → Between bs n low high → low ≤ mid → mid < high → before (name bs mid) n ≡ true → Between bs n (mid + 1) high
 between-right bs n low high mid o w a b h =
@@ -118,9 +115,6 @@ pub record Halved (bs : List ℕ) (from end k low high : ℕ) : Type 0 where
   pub inside : high ≤ end
   pub under : (j : ℕ) → from ≤ j → j < low → slot bs j < k
   pub above : (j : ℕ) → high ≤ j → j < end → k ≤ slot bs j
-
-pub halved-all : (bs : List ℕ) (from end k : ℕ) → from ≤ end → Halved bs from end k from end
-halved-all bs from end k h = record { first = omega arith; ordered = h; inside = omega arith; under = λ j p q. absurd (omega arith); above = λ j p q. absurd (omega arith) }
 
 slots-rise : (bs : List ℕ) → Obeys bs → (i a b : ℕ) → i < names bs → earlier bs i ≤ a → a < b → b < earlier bs i + count bs i → slot bs a < slot bs b
 slots-rise bs o i a b l h m n =

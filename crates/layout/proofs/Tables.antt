@@ -1,9 +1,9 @@
 -- Rows in the byte order of their names, none without a slot, are told by what they say of each name. Assumes nothing.
 use mathlib.Core.Path.{_≡_, refl, sym, ap, subst, _∙_}
-use mathlib.Core.Bool.{Bool, true, false, cond, true≢false}
+use mathlib.Core.Bool.{true, false}
 use mathlib.Core.List.{List, [], _∷_}
 use mathlib.Core.Logic.{⊎-elim}
-use Prim.Native.Nat.{ℕ, suc, zero, _+_, _<_, _≤_}
+use Prim.Native.Nat.{ℕ, suc, _<_, _≤_}
 use native.Mathlib.Omega.{arith}
 use lib.ListN.{length, getD}
 use Rattle.std.specs.declared.cmp.Ordering.{Ordering}
@@ -15,9 +15,9 @@ use Rattle.std.proofs.shelf.Equals.{sameBytes-decides}
 use Rattle.std.proofs.shelf.Tests.{cases-bool, cond-true, cond-false}
 use Rattle.postings.specs.Names.{before, byte-order}
 use Rattle.postings.proofs.Names.{before-less, before-greater, before-trans, before-irrefl, byte-order-equal}
-use Rattle.layout.specs.Fields.{names, name, count}
+use Rattle.layout.specs.Fields.{names, name}
 use Rattle.layout.specs.Layout.{Obeys}
-use Rattle.layout.specs.Meaning.{Row, row, rows, posted}
+use Rattle.layout.specs.Meaning.{Row, rows, posted}
 use Rattle.layout.specs.Posted.{length-rows, getD-rows, length-row}
 use Rattle.layout.proofs.Searches.{names-rise}
 

@@ -1,21 +1,18 @@
 -- The bytes before the first zero. Assumes nothing.
-use mathlib.Core.Path.{_≡_, refl, sym, ap, subst, _∙_}
-use mathlib.Core.Bool.{Bool, true, false, cond}
+use mathlib.Core.Path.{_≡_, sym, ap, _∙_}
+use mathlib.Core.Bool.{cond}
 use mathlib.Core.List.{List, [], _∷_, _++_}
-use Prim.Native.Nat.{ℕ, suc, zero, _+_, _-_, _<_, _≤_}
+use Prim.Native.Nat.{ℕ, _+_, _-_, _<_, _≤_}
 use native.Mathlib.Omega.{arith}
 use lib.Dec.{eqb}
-use lib.ListN.{length, getD, take, drop, length-append}
-use Rattle.std.proofs.shelf.Lists.{at-drop-more, at-drop-all, take-more, append-assoc, append-nil, length-take-le, take-all}
-use Rattle.std.proofs.shelf.Tests.{eq-eqb, ne-eqb, eqb-true, eqb-false, cases-bool}
+use lib.ListN.{length, getD, take, drop}
+use Rattle.std.proofs.shelf.Lists.{at-drop-more, at-drop-all, take-more, append-assoc, append-nil, length-take-le}
+use Rattle.std.proofs.shelf.Tests.{eq-eqb, ne-eqb}
 use Rattle.layout.specs.Fields.{trim}
 
 -- how far a search for the first zero has come: none before i
 abbrev pub Passed : List ℕ → ℕ → Type 0
 Passed xs i = trim xs ≡ take i xs ++ trim (drop i xs)
-
-pub passed-none : (xs : List ℕ) → Passed xs 0
-passed-none xs = refl
 
 pub passed-more : (xs : List ℕ) (i : ℕ) → i < length xs → (getD xs i 0 ≡ 0 → ⊥) → Passed xs i → Passed xs (i + 1)
 passed-more xs i l n h =

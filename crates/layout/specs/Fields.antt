@@ -1,10 +1,14 @@
 -- The fields of a sealed index, by their places in its bytes. Numbers are little-endian. Assumes nothing.
 --
 --   le16, le32     the number of 16 or 32 bits whose first byte stands at a place
---   head-size      the head: `SLX`, version (16 bits at 3), number of names (16 bits at 5),
---                  span (32 bits at 7), number of slots (32 bits at 11)
---   row-size       a row: 16 bytes of name, then two 32-bit numbers
---   slot-size      a slot: a 32-bit number
+--   head-size      how many bytes the head has
+--   row-size       how many bytes a row has: 16 of its name, then two numbers of 32 bits
+--   slot-size      how many bytes a slot has
+--   mark           the bytes with which an index begins: `SLX`
+--   version        16 bits of the head, at 3
+--   names          how many names there are: 16 bits of the head, at 5
+--   span           how many slots the log spans: 32 bits of the head, at 7
+--   total          how many slots there are: 32 bits of the head, at 11
 --   row-at         where the row i begins
 --   name-field     the 16 bytes of name of the row i, padding included
 --   trim           the bytes before the first zero

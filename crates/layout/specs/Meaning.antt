@@ -1,7 +1,8 @@
 -- What the bytes of a sealed index mean. Assumes nothing.
 --
 --   Row       a name with its slots
---   row       the row i: its name, and as many slots as it counts, from the one after the earlier rows' on
+--   row-slots the slots of the row i: as many as it counts, from the one after the earlier rows' on
+--   row       the row i: its name and its slots
 --   rows      all rows, in their order
 --   posted    the slots of a name by a list of rows: those of its row, or none
 --   meaning   the posting lists that the bytes mean

@@ -1,10 +1,9 @@
 -- Properties of the verdict: it accepts exactly the bytes that obey the layout. Assumes nothing.
 use mathlib.Core.Path.{_≡_, refl, sym, ap, subst, _∙_}
-use mathlib.Core.Bool.{Bool, true, false, cond, not, _&&_, _||_}
-use mathlib.Core.List.{List, [], _∷_}
-use mathlib.Core.Logic.{_⊎_, inl, inr, ⊎-elim}
-use Prim.Native.Nat.{ℕ, suc, zero, _+_, _-_, _*_, _<_, _≤_, max}
-use native.Mathlib.Numerals.{add-one}
+use mathlib.Core.Bool.{Bool, true, false, cond, not, _||_}
+use mathlib.Core.List.{List}
+use mathlib.Core.Logic.{_⊎_, ⊎-elim}
+use Prim.Native.Nat.{ℕ, suc, zero, _+_, _-_, _*_, _<_, _≤_}
 use native.Mathlib.Omega.{arith}
 use lib.Dec.{leb, ltb, eqb}
 use lib.ListN.{length, getD, take, drop}
@@ -14,15 +13,15 @@ use Rattle.std.specs.Orderings.{Decides}
 use Rattle.std.specs.Results.{isOk}
 use Rattle.std.specs.shelf.Text.{sameBytes}
 use Rattle.std.proofs.shelf.Equals.{sameBytes-decides}
-use Rattle.std.proofs.shelf.Lists.{getD-take, getD-drop, length-take-le, length-drop, length-take}
+use Rattle.std.proofs.shelf.Lists.{getD-take, getD-drop, length-take-le, length-drop}
 use Rattle.std.proofs.shelf.Tests.{and-parts, and-from, or-cases, or-left, or-right, not-false, eqb-true, eq-eqb, leb-true, le-leb, ltb-true, lt-ltb, cases-lt, cases-eq, true≢false}
 use Rattle.postings.specs.Names.{is-name, before}
 use Rattle.extents.specs.Extents.{last-slot}
 use Rattle.layout.specs.declared.refusal.OpenRefusal.{OpenRefusal}
 use Rattle.layout.specs.Fields.{mark, version, names, span, total, row-at, trim, name-field, name, earlier, count, slot}
 use Rattle.layout.specs.Layout.{counted, Obeys}
-use Rattle.layout.specs.Verdict.{every-below, all-zero, name-stands, row-stands, rows-stand, slot-stands, run-stands, slots-stand, top, size-stands, span-stands, verdict}
-use Rattle.layout.specs.Tests.{every-below-decides, all-zero-decides, counted-grows, RowStands, rows-tell, rows-total}
+use Rattle.layout.specs.Verdict.{all-zero, name-stands, row-stands, rows-stand, slot-stands, run-stands, slots-stand, top, size-stands, span-stands, verdict}
+use Rattle.layout.specs.Tests.{every-below-decides, all-zero-decides, counted-grows, rows-tell, rows-total}
 
 -- every test of the verdict passes
 pub record Stands (bs : List ℕ) : Type 0 where

@@ -1,22 +1,20 @@
 -- Properties of what obeying bytes mean: a lawful store of postings. Assumes nothing.
 use mathlib.Core.Path.{_≡_, refl, sym, ap, subst, _∙_}
 use mathlib.Core.Bool.{Bool, true, false, cond, true≢false}
-use mathlib.Core.List.{List, [], _∷_, map}
+use mathlib.Core.List.{List, [], _∷_}
 use mathlib.Core.Logic.{_⊎_, inl, inr, ⊎-elim}
-use Prim.Native.Nat.{ℕ, suc, zero, _+_, _-_, _*_, _<_, _≤_}
+use Prim.Native.Nat.{ℕ, suc, zero, _+_, _-_, _<_, _≤_}
 use native.Mathlib.Omega.{arith}
 use lib.ListN.{length, getD}
-use Rattle.std.specs.Iters.{counting}
 use Rattle.std.specs.shelf.Text.{sameBytes}
 use Rattle.std.proofs.shelf.Counted.{length-map-counting, getD-map-counting}
 use Rattle.std.proofs.shelf.Equals.{sameBytes-decides}
-use Rattle.std.proofs.shelf.Tests.{cases-lt, cases-bool}
-use Rattle.postings.specs.Names.{is-name, before}
+use Rattle.std.proofs.shelf.Tests.{cases-lt}
+use Rattle.postings.specs.Names.{is-name}
 use Rattle.postings.specs.Rising.{Rising}
-use Rattle.extents.specs.Extents.{last-slot}
-use Rattle.postings.specs.Lists.{PostingLists, Lawful}
+use Rattle.postings.specs.Lists.{Lawful}
 use Rattle.layout.specs.Fields.{names, span, total, name, earlier, count, slot}
-use Rattle.layout.specs.Layout.{counted, Obeys}
+use Rattle.layout.specs.Layout.{Obeys}
 use Rattle.layout.specs.Meaning.{Row, row, row-slots, rows, posted, meaning}
 use Rattle.layout.specs.Tests.{counted-grows}
 

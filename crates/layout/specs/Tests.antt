@@ -1,18 +1,17 @@
 -- Properties of the tests that judge bytes: what each tells, and when it holds. Assumes nothing.
-use mathlib.Core.Path.{_≡_, refl, sym, ap, subst, _∙_}
-use mathlib.Core.Bool.{Bool, true, false, cond, not, _&&_, _||_}
-use mathlib.Core.List.{List, [], _∷_}
+use mathlib.Core.Path.{_≡_, refl, sym, ap, _∙_}
+use mathlib.Core.Bool.{Bool, true, false, _||_}
+use mathlib.Core.List.{List}
 use mathlib.Core.Logic.{⊎-elim}
 use Prim.Native.Nat.{ℕ, suc, zero, _+_, _-_, _*_, _<_, _≤_, max}
 use native.Mathlib.Numerals.{add-one}
 use native.Mathlib.Omega.{arith}
-use lib.Dec.{leb, ltb, eqb}
+use lib.Dec.{eqb}
 use lib.ListN.{length, getD}
 use Rattle.std.specs.Orderings.{Decides}
-use Rattle.std.specs.shelf.Lists.{All}
 use Rattle.std.proofs.shelf.Elements.{all-getD, all-from-getD}
 use Rattle.std.proofs.shelf.Tests.{and-parts, and-from, eqb-true, leb-true, cases-bool, true≢false}
-use Rattle.std.proofs.shelf.Ways.{decides-below-and, decides-by-and, decides-eqb, not-from-decides}
+use Rattle.std.proofs.shelf.Ways.{decides-below-and, decides-by-and, decides-eqb}
 use Rattle.postings.specs.Names.{before}
 use Rattle.layout.specs.Fields.{names, total, row-at, name-field, name, earlier, count, slot}
 use Rattle.layout.specs.Layout.{counted}

@@ -13,7 +13,7 @@
 --   span-stands     the span is one past the largest slot, or 0
 --   verdict         the first rule that is broken, in this order: 15 bytes or more, mark, version, size, rows, slots, span
 --   number          the number of a refusal
-use mathlib.Core.Bool.{Bool, true, false, cond, not, _&&_, _||_}
+use mathlib.Core.Bool.{Bool, true, cond, not, _&&_, _||_}
 use mathlib.Core.List.{List, [], _∷_}
 use Prim.Native.Nat.{ℕ, zero, suc, _+_, _-_, _*_, max}
 use lib.Dec.{leb, ltb, eqb}

@@ -3,4 +3,4 @@ pub mod check;
 pub mod fields;
 pub mod index;
 pub mod refusal;
-pub mod seek;
+mod seek;

@@ -1,5 +1,5 @@
 -- Inner: the extents of the four names in the stack area, and the report before its areas are cleared. No contract that another crate
--- sees names these.
+-- sees names these. Assumes nothing.
 --
 --   Begins      the area begins with a list
 --   IsBehind    a list stands behind what the area began with, and its calls are added

@@ -1,9 +1,9 @@
 -- A logbook's rows are rows that an index can hold, and what is written of them seals the logbook. Assumes nothing.
 use mathlib.Core.Path.{_≡_, refl, sym, ap, subst, fun-ext, _∙_}
 use mathlib.Core.Bool.{true, cond}
-use mathlib.Core.List.{List, [], _∷_, _++_, map}
+use mathlib.Core.List.{List, [], _∷_, _++_}
 use mathlib.Core.Logic.{⊎-elim}
-use Prim.Native.Nat.{ℕ, suc, zero, _+_, _-_, _*_, _<_, _≤_, max}
+use Prim.Native.Nat.{ℕ, suc, zero, _+_, _-_, _*_, _<_, _≤_}
 use native.Mathlib.Omega.{arith}
 use lib.ListN.{length, getD, take, drop}
 use Rattle.std.specs.shelf.Lists.{sumBy}
@@ -13,7 +13,6 @@ use Rattle.std.proofs.shelf.Sums.{sumBy-cons}
 use Rattle.std.proofs.shelf.Tests.{cases-lt}
 use Rattle.postings.specs.Names.{is-name, before}
 use Rattle.postings.specs.Rising.{Rising}
-use Rattle.postings.specs.Lists.{PostingLists}
 use Rattle.postings.proofs.Firsts.{rising-weak}
 use Rattle.logbook.specs.declared.book.Logbook.{Logbook}
 use Rattle.logbook.specs.declared.row.Row as book

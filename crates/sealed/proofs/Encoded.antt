@@ -1,28 +1,26 @@
 -- Written bytes obey the layout, and mean the rows that were written. Assumes nothing.
-use mathlib.Core.Path.{_≡_, refl, sym, ap, subst, _∙_}
+use mathlib.Core.Path.{_≡_, refl, sym, ap, _∙_}
 use mathlib.Core.Bool.{true}
-use mathlib.Core.List.{List, [], _∷_, _++_, map}
-use mathlib.Core.Logic.{⊎-elim}
+use mathlib.Core.List.{List, [], _++_}
 use Prim.Native.Nat.{ℕ, suc, zero, _+_, _-_, _*_, _^_, _<_, _≤_}
 use native.Mathlib.Numerals.{add-one}
 use native.Mathlib.Omega.{arith}
-use lib.ListN.{length, getD, take, drop, replicate}
+use lib.ListN.{length, getD, take, drop}
 use Rattle.std.specs.shelf.Lists.{All}
 use Rattle.std.proofs.shelf.Elements.{all-from-getD}
-use Rattle.std.proofs.shelf.Lists.{append-assoc, append-nil, getD-drop, getD-append-left, drop-drop, drop-at, take-at, drop-more, drop-all, take-all, take-more, length-append, length-take-le, ext-getD}
+use Rattle.std.proofs.shelf.Lists.{append-assoc, getD-drop, getD-append-left, drop-drop, drop-at, take-at, drop-more, drop-all, take-all, length-append, ext-getD}
 use Rattle.std.proofs.shelf.Sums.{sumBy-more, sumBy-take-le}
-use Rattle.std.proofs.shelf.Tests.{cases-lt}
 use Rattle.postings.specs.Names.{is-name, before}
 use Rattle.postings.specs.Rising.{Rising}
 use Rattle.extents.specs.Extents.{last-slot}
 use Rattle.postings.proofs.Names.{name-short}
-use Rattle.layout.specs.Fields.{le16, le32, mark, names, span, total, row-at, trim, name-field, name, earlier, count, slot}
+use Rattle.layout.specs.Fields.{le16, le32, mark, names, span, total, row-at, trim, name, earlier, count, slot}
 use Rattle.layout.specs.Layout.{counted, Obeys}
 use Rattle.layout.specs.Meaning.{Row, row, row-slots, rows}
 use Rattle.layout.specs.Obeyed.{located}
 use Rattle.layout.specs.Posted.{length-rows, getD-rows, length-row, getD-row}
 use Rattle.sealed.specs.Writing.{le2, le4, padded, tally, head-bytes, row-bytes, row-run, slot-run, all-slots}
-use Rattle.sealed.proofs.Runs.{Short, length-le2, length-le4, length-padded, length-row-run, length-slot-run, length-all-slots}
+use Rattle.sealed.proofs.Runs.{Short, length-le4, length-padded, length-row-run, length-slot-run, length-all-slots}
 use Rattle.sealed.proofs.Fields.{le16-at, le32-at, trim-padded, padded-past, rows-from, slots-from, slot-of-row}
 
 abbrev pub none : Row

@@ -1,23 +1,21 @@
 -- What the fields of written bytes read as. Assumes nothing.
-use mathlib.Core.Path.{_≡_, refl, sym, ap, subst, _∙_}
-use mathlib.Core.Bool.{Bool, true, false, cond, _&&_, true≢false}
+use mathlib.Core.Path.{_≡_, refl, sym, ap, _∙_}
+use mathlib.Core.Bool.{true, false, _&&_, true≢false}
 use mathlib.Core.List.{List, [], _∷_, _++_}
-use mathlib.Core.Logic.{⊎-elim}
 use Prim.Native.Nat.{ℕ, suc, zero, _+_, _-_, _*_, _/_, _%_, _^_, _<_, _≤_}
 use native.Mathlib.Nat.{div-div-eq-div-mul, mod-add-div, mod-eq-of-lt}
 use native.Mathlib.Omega.{arith}
 use lib.Dec.{eqb, leb}
 use lib.ListN.{length, getD, take, drop, replicate}
 use Rattle.std.specs.shelf.Lists.{All}
-use Rattle.std.proofs.shelf.Lists.{append-assoc, append-nil, getD-drop, getD-append-left, getD-append-right, getD-replicate, drop-drop, drop-at, take-at, drop-more, length-append}
+use Rattle.std.proofs.shelf.Lists.{append-assoc, getD-drop, getD-append-left, getD-append-right, getD-replicate, drop-drop, drop-at}
 use Rattle.std.proofs.shelf.Sums.{sumBy-cons}
 use Rattle.std.proofs.shelf.Tests.{and-parts, ne-eqb, cond-false}
-use Rattle.std.proofs.shelf.Ways.{tells}
 use Rattle.postings.specs.Names.{is-name, name-byte, all-name-bytes, name-limit}
 use Rattle.layout.specs.Fields.{le16, le32, trim}
 use Rattle.layout.specs.Meaning.{Row}
 use Rattle.sealed.specs.Writing.{le2, le4, padded, tally, row-bytes, row-run, slot-run, all-slots}
-use Rattle.sealed.proofs.Runs.{Short, length-le4, length-padded, length-row-bytes}
+use Rattle.sealed.proofs.Runs.{Short, length-le4, length-row-bytes}
 
 -- ---- numbers
 

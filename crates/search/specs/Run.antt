@@ -1,4 +1,4 @@
--- Inner: the steps of a query, one after the other. No contract that another crate sees names these.
+-- Inner: the steps of a query, one after the other. No contract that another crate sees names these. Assumes nothing.
 --
 --   Pending       what waits for its operator: a stored list, or a `#` or `@` that is not stored
 --   filled        how many extents are stored

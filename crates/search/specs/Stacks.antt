@@ -1,4 +1,4 @@
--- Inner: the operand stack and the stack area, as what waits. No contract that another crate sees names these.
+-- Inner: the operand stack and the stack area, as what waits. No contract that another crate sees names these. Assumes nothing.
 --
 --   Lies          each that waits is written down, and stands in the area above those below it
 --   Stacked       the operand stack and the area hold what waits, after so many calls

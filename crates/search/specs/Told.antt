@@ -1,4 +1,4 @@
--- Inner: what a search answers before its areas are cleared. No contract that another crate sees names these.
+-- Inner: what a search answers before its areas are cleared. No contract that another crate sees names these. Assumes nothing.
 --
 --   kept-of   how many extents stay
 --   Told      it answers as the law says, and the stack area begins with the list

@@ -1,8 +1,5 @@
-use mathlib.Core.Path.{_≡_, sym}
+use mathlib.Core.Path.{sym}
 use native.Mathlib.Omega.{arith}
-use Prim.Native.Nat.{_<_, _≤_}
-use lib.ListN.{length}
-use Rattle.std.proofs.shelf.Ways.{not-from-decides}
 use Rattle.layout.specs.Tests.{all-zero-decides, all-zero-broken}
 use Rattle.layout.proofs.check.all_zero.Needs as need
 

@@ -1,4 +1,3 @@
-use mathlib.Core.Path.{_≡_, sym, ap, _∙_}
 use borrow.Author.Needs.{needs}
 use Rattle.postings.specs.Names.{byte-order, before}
 use Rattle.layout.proofs.check.follows.Needs as need

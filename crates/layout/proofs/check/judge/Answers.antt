@@ -1,10 +1,9 @@
 use mathlib.Core.Path.{_≡_, sym}
 use mathlib.Core.Bool.{true, false}
-use native.Mathlib.Omega.{arith}
 use lib.Dec.{leb, eqb}
 use lib.ListN.{length, take}
 use Rattle.std.specs.shelf.Text.{sameBytes}
-use Rattle.std.proofs.shelf.Tests.{eqb-true, leb-true}
+use Rattle.std.proofs.shelf.Tests.{leb-true}
 use Rattle.layout.specs.Fields.{mark, version}
 use Rattle.layout.specs.Verdict.{verdict, size-stands, rows-stand, slots-stand, span-stands}
 use Rattle.layout.specs.Tests.{size-tells}

@@ -1,7 +1,3 @@
-use mathlib.Core.Path.{_≡_, sym, ap, _∙_}
-use Prim.Native.Nat.{_+_, max}
-use Rattle.layout.specs.Fields.{slot}
-use Rattle.layout.specs.Verdict.{top}
 use Rattle.layout.specs.Tests.{top-more}
 use Rattle.layout.proofs.check.largest_end.Needs as need
 

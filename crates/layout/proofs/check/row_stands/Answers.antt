@@ -1,5 +1,4 @@
 use native.Mathlib.Omega.{arith}
-use borrow.Author.Needs.{needs}
 use Rattle.std.proofs.shelf.Ways.{tells}
 use Rattle.layout.specs.Verdict.{row-stands}
 use Rattle.layout.proofs.check.row_stands.Needs as need

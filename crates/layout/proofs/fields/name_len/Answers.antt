@@ -1,8 +1,7 @@
 use mathlib.Core.Path.{_≡_, subst}
-use Prim.Native.Nat.{_<_}
 use native.Mathlib.Omega.{arith}
 use lib.ListN.{length}
-use Rattle.layout.proofs.Trims.{Passed, passed-none, passed-more, passed-zero, passed-all, trim-long}
+use Rattle.layout.proofs.Trims.{Passed, passed-more, passed-zero, passed-all, trim-long}
 use Rattle.layout.proofs.fields.name_len.Needs as need
 
 pub returns-then-b-eq0 : need.returns-then-b-eq0

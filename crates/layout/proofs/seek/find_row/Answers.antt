@@ -6,7 +6,7 @@ use Rattle.postings.specs.Names.{before}
 use Rattle.postings.proofs.Names.{before-less, before-greater, byte-order-equal}
 use Rattle.layout.specs.Fields.{names, name}
 use Rattle.layout.specs.Obeyed.{stands-from-verdict, obeys-from-verdict}
-use Rattle.layout.proofs.Searches.{between-all, between-right, between-left, between-none, named-row}
+use Rattle.layout.proofs.Searches.{between-right, between-left, between-none, named-row}
 use Rattle.layout.proofs.seek.find_row.Needs as need
 
 pub name-count-high-requires : need.name-count-high-requires

@@ -1,11 +1,11 @@
-use mathlib.Core.Path.{_≡_, sym, ap, subst, _∙_}
+use mathlib.Core.Path.{_≡_, sym, ap, _∙_}
 use native.Mathlib.Omega.{arith}
-use Prim.Native.Nat.{_+_, _-_, _/_, _<_, _≤_}
+use Prim.Native.Nat.{_+_, _-_, _/_}
 use Rattle.std.specs.declared.option.Option.the-variants.{Some}
-use Rattle.layout.specs.Fields.{names, total, earlier, count, slot}
-use Rattle.layout.specs.Obeyed.{Stands, stands-from-verdict, obeys-from-verdict}
+use Rattle.layout.specs.Fields.{earlier, count}
+use Rattle.layout.specs.Obeyed.{stands-from-verdict, obeys-from-verdict}
 use Rattle.layout.specs.Posted.{row-within}
-use Rattle.layout.proofs.Searches.{Halved, halved-right, halved-left, halved-found, halved-none}
+use Rattle.layout.proofs.Searches.{halved-right, halved-left, halved-found, halved-none}
 use Rattle.layout.proofs.seek.first_in_row.Needs as need
 
 pub row-earlier-from-requires : need.row-earlier-from-requires

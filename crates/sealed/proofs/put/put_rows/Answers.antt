@@ -1,7 +1,7 @@
-use mathlib.Core.Path.{_≡_, ap, subst, _∙_}
+use mathlib.Core.Path.{ap, subst}
 use Prim.Native.Nat.{_≤_}
 use native.Mathlib.Omega.{arith}
-use lib.ListN.{length, take}
+use lib.ListN.{length}
 use Rattle.std.proofs.shelf.Lists.{length-map, take-all}
 use Rattle.sealed.specs.Writing.{pair-of, pairs, row-run, Put}
 use Rattle.sealed.proofs.Runs.{rows-more, tally-more, tally-within}

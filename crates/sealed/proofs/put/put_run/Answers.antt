@@ -1,5 +1,4 @@
-use mathlib.Core.Path.{_≡_, subst}
-use native.Mathlib.Omega.{arith}
+use mathlib.Core.Path.{subst}
 use Rattle.std.proofs.shelf.Lists.{take-all}
 use Rattle.sealed.specs.Writing.{slot-run, Put}
 use Rattle.sealed.proofs.Puts.{put-none}

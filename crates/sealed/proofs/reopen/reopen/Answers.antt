@@ -1,20 +1,18 @@
 use mathlib.Core.Path.{_≡_, sym, ap, subst, _∙_}
 use mathlib.Core.Bool.{true}
-use Prim.Native.Nat.{ℕ, _-_}
+use Prim.Native.Nat.{_-_}
 use native.Mathlib.Omega.{arith}
 use borrow.Author.Needs.{needs}
 use denote.Ref.{now}
 use lib.ListN.{take}
 use Rattle.std.specs.declared.result.Result.the-variants.{Ok, Err}
 use Rattle.std.specs.Results.{isOk}
-use Rattle.std.proofs.shelf.Results.{err-from-errBy}
 use Rattle.std.proofs.shelf.Tests.{cond-true, cond-false}
 use Rattle.postings.specs.Lists.{PostingLists}
 use Rattle.postings.specs.Rising.{first-from}
 use Rattle.layout.specs.Layout.{Obeys}
 use Rattle.layout.specs.Meaning.{meaning}
 use Rattle.logbook.specs.Books.{lists-of}
-use Rattle.sealed.specs.Reopening.{reopened}
 use Rattle.sealed.specs.Sealing.{index-size}
 use Rattle.sealed.proofs.Answers.{held, room-from, short-from, told}
 use Rattle.sealed.proofs.reopen.reopen.Needs as need

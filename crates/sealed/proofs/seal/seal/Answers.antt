@@ -1,12 +1,12 @@
 use mathlib.Core.Path.{_≡_, sym, ap, _∙_}
-use Prim.Native.Nat.{ℕ, _+_, _*_, _≤_}
+use Prim.Native.Nat.{_+_, _*_, _≤_}
 use native.Mathlib.Omega.{arith}
 use lib.ListN.{length}
-use Rattle.std.specs.declared.result.Result.the-variants.{Ok, Err}
+use Rattle.std.specs.declared.result.Result.the-variants.{Ok}
 use Rattle.std.proofs.shelf.Tests.{cond-false, le-ltb}
 use Rattle.sealed.specs.Sealing.{index-size}
 use Rattle.sealed.specs.Writing.{pairs, tally}
-use Rattle.sealed.proofs.Books.{few-rows, tally-book, index-written, sealed-from}
+use Rattle.sealed.proofs.Books.{tally-book, index-written, sealed-from}
 use Rattle.sealed.proofs.seal.seal.Needs as need
 
 pub put-rows-requires : need.put-rows-requires
