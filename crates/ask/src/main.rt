@@ -47,10 +47,16 @@ fn ask_file(rt: &LibcRuntime) -> Result<(), AnyError> {
     let Some(path) = words.nth(1) else {
         return Err("say which index to read: ask FILE".into());
     };
-    let bytes = fs::read(rt, path.as_str())?;
-    answer_over(rt, bytes.as_slice())
+    match fs::read(rt, path.as_str()) {
+        Ok(bytes) => answer_over(rt, bytes.as_slice()),
+        Err(e) => Err(format!(rt.alloc(), "cannot read {path}: {e}")?.into()),
+    }
 }
 
 fn main(rt: LibcRuntime) -> Result<(), AnyError> {
-    rt.report(ask_file(&rt))
+    let asked = ask_file(&rt);
+    if let Err(e) = &asked {
+        let _ = eprintln!(rt, "ask: {e}");
+    }
+    asked
 }

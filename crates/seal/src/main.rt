@@ -43,16 +43,20 @@ fn index_of(rt: &LibcRuntime, book: &Logbook) -> Result<Vec<u8>, AnyError> {
     }
 }
 
+// Writes the bytes under one name and then puts them in the place of another.
+fn write_and_move(rt: &LibcRuntime, beside: &str, path: &str, bytes: &[u8]) -> io::Result<()> {
+    fs::write(rt, beside, bytes)?;
+    fs::rename(rt, beside, path)
+}
+
 // Writes the bytes beside FILE and then puts them in its place, so that FILE is never half written.
-fn put_in_place(rt: &LibcRuntime, path: &str, bytes: &[u8]) -> Result<(), AnyError> {
+fn put_in_place(rt: &LibcRuntime, path: &str, bytes: &[u8]) -> io::Result<()> {
     let beside = format!(rt.alloc(), "{path}.partial")?;
-    let written = fs::write(rt, beside.as_str(), bytes);
-    if written.is_err() {
+    let placed = write_and_move(rt, beside.as_str(), path, bytes);
+    if placed.is_err() {
         let _ = fs::remove_file(rt, beside.as_str());
     }
-    written?;
-    fs::rename(rt, beside.as_str(), path)?;
-    Ok(())
+    placed
 }
 
 fn seal_shift(rt: &LibcRuntime) -> Result<(), AnyError> {
@@ -65,12 +69,18 @@ fn seal_shift(rt: &LibcRuntime) -> Result<(), AnyError> {
     };
     run(rt, &mut shift)?;
     let bytes = index_of(rt, &shift.book)?;
-    put_in_place(rt, path.as_str(), bytes.as_slice())?;
+    if let Err(e) = put_in_place(rt, path.as_str(), bytes.as_slice()) {
+        return Err(format!(rt.alloc(), "cannot write {path}: {e}")?.into());
+    }
     let length = bytes.len();
     println!(rt, "sealed {length}")?;
     Ok(())
 }
 
 fn main(rt: LibcRuntime) -> Result<(), AnyError> {
-    rt.report(seal_shift(&rt))
+    let sealed = seal_shift(&rt);
+    if let Err(e) = &sealed {
+        let _ = eprintln!(rt, "seal: {e}");
+    }
+    sealed
 }
