@@ -1,4 +1,6 @@
 // Worked examples of sources and operators, with results by hand.
+#![tactic(auto)]
+
 #[cfg(test)]
 mod tests {
     use combination::both_of::BothOf;

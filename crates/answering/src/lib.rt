@@ -1,4 +1,6 @@
 // Answers to queries, printed. What is printed is outside every contract; the answers are those of `search` and `report`.
+#![tactic(auto)]
+
 use extents::extent::Extent;
 use postings::Postings;
 use report::report::report;

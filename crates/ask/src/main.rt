@@ -1,4 +1,6 @@
 // ask FILE: answers queries from standard input over a sealed index.
+#![tactic(auto)]
+
 use answering::Areas;
 use anyhow::anyhow;
 use console::command::Command;

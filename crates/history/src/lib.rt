@@ -1,4 +1,6 @@
 // Lists of enters and searches on a logbook, and what every search promises.
+#![tactic(auto)]
+
 pub mod call;
 pub mod replay;
 pub mod theorem;

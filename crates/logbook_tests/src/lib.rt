@@ -1,4 +1,6 @@
 // Examples of entering: every refusal at its edge, and the logbook as it was after it.
+#![tactic(auto)]
+
 #[cfg(test)]
 mod tests {
     use shift_logbook::book::Logbook;

@@ -1,4 +1,6 @@
 // Worked examples of reading, each answer worked out by hand.
+#![tactic(auto)]
+
 #[cfg(test)]
 mod tests {
     use extents::operator::Operator;

@@ -1,4 +1,6 @@
 // Worked examples of the shift report, with results by hand.
+#![tactic(auto)]
+
 #[cfg(test)]
 mod tests {
     use extents::extent::Extent;

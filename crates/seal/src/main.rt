@@ -1,4 +1,6 @@
 // seal FILE: enters a shift's log from standard input, then writes it to FILE as a sealed index.
+#![tactic(auto)]
+
 use anyhow::anyhow;
 use console::command::Command;
 use console::input::{Session, run};

@@ -1,4 +1,6 @@
 // Sealing a logbook into bytes that are kept, and opened again as an index.
+#![tactic(auto)]
+
 mod put;
 pub mod refusal;
 pub mod reopen;

@@ -1,4 +1,6 @@
 // The index of one sample log, byte for byte; damaged bytes; and every truncation and single-byte change.
+#![tactic(auto)]
+
 #[cfg(test)]
 mod tests {
     use layout::index::SealedIndex;

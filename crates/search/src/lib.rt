@@ -1,4 +1,6 @@
 // A typed query, run over any postings and a trace of temperatures, in two areas that the caller lends.
+#![tactic(auto)]
+
 pub mod answer;
 mod evaluate;
 pub mod fault;

@@ -1,4 +1,6 @@
 // slots: enters a shift's log from standard input, then prints where each name stands and which lines were refused.
+#![tactic(auto)]
+
 use console::command::Command;
 use console::input::{Session, run};
 use shift_logbook::book::Logbook;
