@@ -6,5 +6,5 @@ loop-j-preserved c =
     let m = top_more c.args.bytes.now c.loop-j.j in
     let i = c.loop-j.invariant in
     let e = c.max-end.ensures in
-    let s = c.slot-at.ensures in
+    let s = c.slot_at.ensures in
     cc

@@ -8,5 +8,5 @@ use Rattle.layout.proofs.check.marked.Goals as goal
 pub returns : goal.returns
 returns c =
     let xs = take 3 c.args.bytes.now in
-    let r = c.starts-with.result in
-    same_from_decides r (bytes_eq xs mark) (Decides-like r sym sym (slice_eq-Decides Decides-eqb mark xs r c.starts-with.ensures.value)) (bytes_eq-Decides xs mark)
+    let r = c.starts_with.result in
+    same_from_decides r (bytes_eq xs mark) (Decides-like r sym sym (slice_eq-Decides Decides-eqb mark xs r c.starts_with.ensures.value)) (bytes_eq-Decides xs mark)

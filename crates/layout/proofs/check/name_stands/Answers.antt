@@ -6,20 +6,20 @@ use Rattle.layout.specs.Fields.{trim}
 use Rattle.layout.specs.Verdict.{name_stands, all_zero}
 use Rattle.layout.proofs.check.name_stands.Goals as goal
 
-pub returns-then-is-name : goal.returns-then-is-name
+pub returns-then-is_name : goal.returns-then-is_name
 unfolding name_stands
-returns-then-is-name c =
+returns-then-is_name c =
     let f = c.args.field.now in
     let n = length c.trimmed-text.result.now in
     let e = c.trimmed-text.ensures.text in
     let z : c.all_zero.result ≡ all_zero (drop (length (trim f)) f) = c.all_zero.ensures ∙ ap all_zero (take_rest f n) ∙ ap (λ t. all_zero (drop (length t) f)) e in
-    let t : true ≡ is_name (trim f) = c.if-is-name.ensures ∙ ap is_name e in
+    let t : true ≡ is_name (trim f) = c.if-is_name.ensures ∙ ap is_name e in
     z ∙ ap (λ b. b && all_zero (drop (length (trim f)) f)) t
 
-pub returns-else-is-name : goal.returns-else-is-name
+pub returns-else-is_name : goal.returns-else-is_name
 unfolding name_stands
-returns-else-is-name c =
+returns-else-is_name c =
     let f = c.args.field.now in
     let e = ap is_name c.trimmed-text.ensures.text in
-    let n = sym e ∙ sym c.if-is-name.ensures in
-    c.if-is-name.false ∙ sym (and_left (is_name (trim f)) (all_zero (drop (length (trim f)) f)) n)
+    let n = sym e ∙ sym c.if-is_name.ensures in
+    c.if-is_name.false ∙ sym (and_left (is_name (trim f)) (all_zero (drop (length (trim f)) f)) n)

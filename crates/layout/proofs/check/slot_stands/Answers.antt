@@ -11,6 +11,6 @@ pub returns-else-k-eq0 : goal.returns-else-k-eq0
 unfolding slot_stands
 returns-else-k-eq0 c = grind (arith, nat_tests)
 
-pub returns-else-slot-le-LAST-SLOT : goal.returns-else-slot-le-LAST-SLOT
+pub returns-else-slot-le-LAST_SLOT : goal.returns-else-slot-le-LAST_SLOT
 unfolding slot_stands
-returns-else-slot-le-LAST-SLOT c = grind (arith, nat_tests)
+returns-else-slot-le-LAST_SLOT c = grind (arith, nat_tests)

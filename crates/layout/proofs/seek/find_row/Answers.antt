@@ -6,18 +6,18 @@ use Rattle.layout.specs.Obeyed.{stands_from_verdict, obeys_from_verdict}
 use Rattle.layout.proofs.Searches.{between_right, between_left, between_none, named_row}
 use Rattle.layout.proofs.seek.find_row.Goals as goal
 
-pub name-count-high-requires : goal.name-count-high-requires
-name-count-high-requires c = (stands_from_verdict c.args.bytes.now c.requires).long
+pub name_count-high-requires : goal.name_count-high-requires
+name_count-high-requires c = (stands_from_verdict c.args.bytes.now c.requires).long
 
-pub row-name-requires : goal.row-name-requires
-row-name-requires c = omega (arith, (stands_from_verdict c.args.bytes.now c.requires).size, c.loop-low.invariant.inside)
+pub row_name-requires : goal.row_name-requires
+row_name-requires c = omega (arith, (stands_from_verdict c.args.bytes.now c.requires).size, c.loop-low.invariant.inside)
 
 pub loop-low-preserved-in-Less : goal.loop-low-preserved-in-Less
 loop-low-preserved-in-Less c =
     let bs = c.args.bytes.now in
     let n = c.args.name.now in
     let mid = c.loop-low.low + (c.loop-low.high - c.loop-low.low) / 2 in
-    let b : before (name bs mid) n ≡ true = subst (λ t. before t n ≡ true) c.row-name.ensures (before_less c.row-name.result.now n (sym c.in-Less.ensures)) in
+    let b : before (name bs mid) n ≡ true = subst (λ t. before t n ≡ true) c.row_name.ensures (before_less c.row_name.result.now n (sym c.in-Less.ensures)) in
     between_right bs n c.loop-low.low c.loop-low.high mid (obeys_from_verdict bs c.requires) c.loop-low.invariant (omega arith) (omega arith) b
 
 pub returns-in-Equal : goal.returns-in-Equal
@@ -26,7 +26,7 @@ returns-in-Equal c =
     let n = c.args.name.now in
     let mid = c.loop-low.low + (c.loop-low.high - c.loop-low.low) / 2 in
     let l : mid < names bs = omega (arith, c.loop-low.invariant.inside) in
-    let e : name bs mid ≡ n = sym c.row-name.ensures ∙ byte_order_equal c.row-name.result.now n (sym c.in-Equal.ensures) in
+    let e : name bs mid ≡ n = sym c.row_name.ensures ∙ byte_order_equal c.row_name.result.now n (sym c.in-Equal.ensures) in
     (l, named_row bs n (obeys_from_verdict bs c.requires) mid l e)
 
 pub loop-low-preserved : goal.loop-low-preserved
@@ -34,7 +34,7 @@ loop-low-preserved c =
     let bs = c.args.bytes.now in
     let n = c.args.name.now in
     let mid = c.loop-low.low + (c.loop-low.high - c.loop-low.low) / 2 in
-    let b : before n (name bs mid) ≡ true = subst (λ t. before n t ≡ true) c.row-name.ensures (before_greater c.row-name.result.now n (sym c.in-Greater.ensures)) in
+    let b : before n (name bs mid) ≡ true = subst (λ t. before n t ≡ true) c.row_name.ensures (before_greater c.row_name.result.now n (sym c.in-Greater.ensures)) in
     between_left bs n c.loop-low.low c.loop-low.high mid (obeys_from_verdict bs c.requires) c.loop-low.invariant (omega arith) (omega arith) b
 
 pub returns : goal.returns

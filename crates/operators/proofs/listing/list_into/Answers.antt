@@ -16,12 +16,12 @@ loop-x-init g c =
     let b = ap (list_calls f 0) a in
     (a, omega arith, refl, omega (arith, b))
 
-pub returns-in-default : goal.returns-in-default
-returns-in-default g c =
+pub returns-in_default : goal.returns-in_default
+returns-in_default g c =
     let xs = g.S.Source.extents c.args.source.now in
     let f = g.S.Source.calls c.args.source.now FirstStart in
     let at = c.loop-x.at in
-    let e : first_start xs at ≡ None = sym c.first-start-found.ensures.extent ∙ c.in-default.is in
+    let e : first_start xs at ≡ None = sym c.first_start-found.ensures.extent ∙ c.in_default.is in
     let o = onward_none xs at e in
     let w = none_left c.loop-x.out c.loop-x.n xs (onward at xs) c.loop-x.invariant.0 o in
     let b = ap (list_calls f at) o in
@@ -38,7 +38,7 @@ returns-then-n-out g c =
     let xs = g.S.Source.extents c.args.source.now in
     let at = c.loop-x.at in
     let x = c.in-Some.x in
-    let e : first_start xs at ≡ Some x = sym c.first-start-found.ensures.extent ∙ c.in-Some.is in
+    let e : first_start xs at ≡ Some x = sym c.first_start-found.ensures.extent ∙ c.in-Some.is in
     let o = onward_some xs at x (g.S.Source.rising c.args.source.now) e in
     let m = more_left c.loop-x.out c.loop-x.n xs (onward at xs) (onward (x.start + 1) xs) x c.if-n-out.true c.loop-x.invariant.0 o in
     record {
@@ -46,12 +46,12 @@ returns-then-n-out g c =
       written = filled c.loop-x.out c.loop-x.n (length c.args.out.now) xs (onward at xs) c.if-n-out.true (sym c.loop-x.auto.out) c.loop-x.invariant.0;
     }
 
-pub overflow-add-at : goal.overflow-add-at
-overflow-add-at g c =
+pub overflow_add-at : goal.overflow_add-at
+overflow_add-at g c =
     let xs = g.S.Source.extents c.args.source.now in
     let hs = g.S.Source.rising c.args.source.now in
     let x = c.in-Some.x in
-    let e : first_start xs c.loop-x.at ≡ Some x = sym c.first-start-found.ensures.extent ∙ c.in-Some.is in
+    let e : first_start xs c.loop-x.at ≡ Some x = sym c.first_start-found.ensures.extent ∙ c.in-Some.is in
     omega (arith, mem_proper xs x hs (first_start_is xs c.loop-x.at x hs e).0)
 
 pub loop-x-smaller : goal.loop-x-smaller
@@ -59,7 +59,7 @@ loop-x-smaller g c =
     let xs = g.S.Source.extents c.args.source.now in
     let at = c.loop-x.at in
     let x = c.in-Some.x in
-    let e : first_start xs at ≡ Some x = sym c.first-start-found.ensures.extent ∙ c.in-Some.is in
+    let e : first_start xs at ≡ Some x = sym c.first_start-found.ensures.extent ∙ c.in-Some.is in
     let o = ap length (onward_some xs at x (g.S.Source.rising c.args.source.now) e) in
     omega (arith, o)
 
@@ -71,7 +71,7 @@ loop-x-preserved g c =
     let x = c.in-Some.x in
     let n = c.loop-x.n in
     let area = c.loop-x.out in
-    let e : first_start xs at ≡ Some x = sym c.first-start-found.ensures.extent ∙ c.in-Some.is in
+    let e : first_start xs at ≡ Some x = sym c.first_start-found.ensures.extent ∙ c.in-Some.is in
     let o = onward_some xs at x (g.S.Source.rising c.args.source.now) e in
     let b = ap (list_calls f at) o in
     let l : n < length area = omega (arith, c.loop-x.invariant.1, c.if-n-out.false) in (

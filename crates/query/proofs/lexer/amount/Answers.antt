@@ -4,12 +4,12 @@ use Rattle.std.specs.Str.Parse.{digits_value}
 use Rattle.query.specs.Scanning.{digit}
 use Rattle.query.proofs.Runs.{run_more, run_stops, run_ends, amount_more, amount_none, amount_some, amount_over}
 use Rattle.query.proofs.lexer.amount.Goals as goal
-use Rattle.query.proofs.lexer.amount.Goals.{Left-loop-after, then-n-limit, else-n-limit, then-loop-after-test+else-is-ascii-digit, else-loop-after-test}
+use Rattle.query.proofs.lexer.amount.Goals.{Left-loop-after, then-n-limit, else-n-limit, then-loop-after-test+else-is_ascii_digit, else-loop-after-test}
 
 pub loop-after-preserved : goal.loop-after-preserved
 loop-after-preserved c =
     let bs = c.args.text.now in
-    let go = sym c.if-is-ascii-digit.ensures.value in
+    let go = sym c.if-is_ascii_digit.ensures.value in
     let in-bs = c.loop-after-test.true in
     let inv = c.loop-after.invariant in (
       omega arith,
@@ -22,7 +22,7 @@ loop-after-preserved c =
 stopped : (c : Left-loop-after) → prefix_len digit (drop (c.args.place + 1) c.args.text.now) ≡ c.loop-after.after - (c.args.place + 1)
 stopped c =
     elim c.loop-after-test.branch [
-      | then-loop-after-test+else-is-ascii-digit w ↦ omega (arith, run_stops digit c.args.text.now (c.args.place + 1) c.loop-after.after c.loop-after.invariant.1 w.loop-after-test.true (sym w.if-is-ascii-digit.ensures.value))
+      | then-loop-after-test+else-is_ascii_digit w ↦ omega (arith, run_stops digit c.args.text.now (c.args.place + 1) c.loop-after.after c.loop-after.invariant.1 w.loop-after-test.true (sym w.if-is_ascii_digit.ensures.value))
       | else-loop-after-test w ↦ omega (arith, run_ends digit c.args.text.now (c.args.place + 1) c.loop-after.after c.loop-after.invariant.1 w.loop-after-test.false)
     ]
 

@@ -27,16 +27,16 @@ module _ {bs : List ℕ} where
   refused_leftmost : {f : ReadFault} → Refuses bs f → Leftmost bs (Err f)
   refused_leftmost x g y = ap Err (refuses_once x y)
 
-pub returns-in-err-last : goal.returns-in-err-last
-returns-in-err-last c =
-    let p = err_from_is_err_and c.from-residual.result c.from-residual.ensures.1 in
-    let x = subst (λ b. Refuses b c.in-err-last.field-0.0) c.new.ensures.same (fails_refuses c.in-err-last.ensures) in
+pub returns-in_err-last : goal.returns-in_err-last
+returns-in_err-last c =
+    let p = err_from_is_err_and c.from_residual.result c.from_residual.ensures.1 in
+    let x = subst (λ b. Refuses b c.in_err-last.field-0.0) c.new.ensures.same (fails_refuses c.in_err-last.ensures) in
     rw (p.1, p.2) (record { outcome = x; complete = refused_complete x; leftmost = refused_leftmost x; unambiguous = λ e f. reads_once })
 
 pub returns-in-End : goal.returns-in-End
 returns-in-End c =
-    let q = c.in-ok-last.ensures in
-    let last = c.in-ok-last.last in
+    let q = c.in_ok-last.ensures in
+    let last = c.in_ok-last.last in
     let same = c.new.ensures.same in
     let met = q.next ∙ ap (λ t. token (terminal t) last.place last.after) c.in-End.is in
     let reads = subst (λ b. Reads b q.expr) same (walk_reads q.walked met q.parsed) in
@@ -49,10 +49,10 @@ returns-in-End c =
     } in
     record { outcome = a; complete = read_complete a; leftmost = read_leftmost a; unambiguous = λ e f. reads_once }
 
-pub returns-in-default : goal.returns-in-default
-returns-in-default c =
-    let q = c.in-ok-last.ensures in
-    let last = c.in-ok-last.last in
-    let halts = fails_after q.walked (fails_at q.next (unexpected_last _ last.place last.after last.token q.other c.in-default.not-End)) in
+pub returns-in_default : goal.returns-in_default
+returns-in_default c =
+    let q = c.in_ok-last.ensures in
+    let last = c.in_ok-last.last in
+    let halts = fails_after q.walked (fails_at q.next (unexpected_last _ last.place last.after last.token q.other c.in_default.not-End)) in
     let x = subst (λ b. Refuses b (Unexpected last.place)) c.new.ensures.same (fails_refuses halts) in
     record { outcome = x; complete = refused_complete x; leftmost = refused_leftmost x; unambiguous = λ e f. reads_once }

@@ -4,9 +4,9 @@ use Rattle.layout.specs.Meaning.{rows}
 use Rattle.layout.specs.Verdict.{verdict, size_stands, rows_stand, slots_stand, span_stands}
 use Rattle.layout.proofs.index.SealedIndex.new.Goals as goal
 
-pub invariant-of-result : goal.invariant-of-result
+pub invariant_of-result : goal.invariant_of-result
 unfolding verdict size_stands rows_stand slots_stand span_stands le16 le32
-invariant-of-result c = (refl, tt)
+invariant_of-result c = record { stands = refl }
 
 pub returns : goal.returns
 unfolding rows le16 le32

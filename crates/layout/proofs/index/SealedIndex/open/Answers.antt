@@ -4,14 +4,14 @@ use Rattle.layout.specs.Verdict.{verdict}
 use Rattle.layout.specs.Obeyed.{verdict_decides}
 use Rattle.layout.proofs.index.SealedIndex.open.Goals as goal
 
-pub returns-in-err-judge : goal.returns-in-err-judge
-returns-in-err-judge c =
+pub returns-in_err-judge : goal.returns-in_err-judge
+returns-in_err-judge c =
     let bs = c.args.bytes.now in
-    let says : c.from-residual.result ≡ verdict bs = search rules in
-    record { says = says; exact = Decides-at (is_ok c.from-residual.result) (is_ok (verdict bs)) (ap is_ok says) (verdict_decides bs); holds = search rules }
+    let says : c.from_residual.result ≡ verdict bs = search rules in
+    record { says = says; exact = Decides-at (is_ok c.from_residual.result) (is_ok (verdict bs)) (ap is_ok says) (verdict_decides bs); holds = search rules }
 
 pub returns : goal.returns
 returns c =
     let bs = c.args.bytes.now in
-    let says = c.in-ok-judge.ensures in
+    let says = c.in_ok-judge.ensures in
     record { says = says; exact = Decides-at _ (is_ok (verdict bs)) (ap is_ok says) (verdict_decides bs); holds = refl }
