@@ -7,8 +7,8 @@ ghost use Rattle.sealed.specs.Sealing.{index_size, outcome, Seals};
 use super::refusal::SealRefusal;
 use super::seal::seal;
 use layout::index::SealedIndex;
-use shift_logbook::book::Logbook;
 use postings::Postings;
+use shift_logbook::book::Logbook;
 
 // Seals the logbook, opens what was written, and asks the index for the name's first slot from k on and for its span: as the logbook would answer.
 pub fn reopen(

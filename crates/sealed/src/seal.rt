@@ -4,8 +4,8 @@ ghost use Rattle.sealed.specs.Sealing.{Seals};
 use super::put::{put_head, put_rows, put_slots};
 use super::refusal::SealRefusal;
 use layout::fields::{HEAD_SIZE, ROW_SIZE, SLOT_SIZE};
-use shift_logbook::book::Logbook;
 use postings::Postings;
+use shift_logbook::book::Logbook;
 
 // Writes the logbook's index to the front of the buffer and answers its size; where the buffer is shorter, refuses and leaves it as it was.
 pub fn seal(book: &Logbook, buffer: &mut [u8]) -> Result<usize, SealRefusal>

@@ -8,5 +8,5 @@ unfolding padded
 returns c =
     let t = c.args.name.now in
     let z : length t - 0 ≡ length t = omega arith in
-    ap (λ (ys : List ℕ). ys ++ drop (length t - 0) (replicate {A = ℕ} 16 0)) c.copy-from-slice.ensures.after
+    ap (λ (ys : List ℕ). ys ++ drop (length t - 0) (replicate {A = ℕ} 16 0)) c.copy_from_slice.ensures.after
     ∙ ap (λ (zs : List ℕ). t ++ zs) (ap (λ n. drop n (replicate {A = ℕ} 16 0)) z ∙ drop-replicate (length t) 16 0)

@@ -8,5 +8,5 @@ returns c =
     let u = c.args.buffer.now in
     let n = length c.args.bytes.now in
     let k : at + n - at ≡ n = omega arith in
-    ap (λ (ys : List ℕ). take at u ++ (ys ++ drop (at + n - at) (drop at u))) c.copy-from-slice.ensures.after
+    ap (λ (ys : List ℕ). take at u ++ (ys ++ drop (at + n - at) (drop at u))) c.copy_from_slice.ensures.after
     ∙ ap (λ (d : List ℕ). take at u ++ (c.args.bytes.now ++ d)) (ap (λ m. drop m (drop at u)) k ∙ drop-drop n at u)

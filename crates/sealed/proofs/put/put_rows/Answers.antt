@@ -4,19 +4,19 @@ use Rattle.sealed.specs.Writing.{pair_of, pairs, row_run, Put}
 use Rattle.sealed.proofs.Runs.{rows_more, tally_more, tally_within}
 use Rattle.sealed.proofs.put.put_rows.Goals as goal
 
-pub put-row-requires : goal.put-row-requires
-put-row-requires c =
+pub put_row-requires : goal.put_row-requires
+put_row-requires c =
     let t = tally_within c.args.rows.now c.loop-row.row-index c.row-item.result c.loop-row-test.true c.row-item.is in
     (omega arith, omega arith)
 
-pub overflow-cast-earlier : goal.overflow-cast-earlier
-overflow-cast-earlier c =
+pub overflow_cast-earlier : goal.overflow_cast-earlier
+overflow_cast-earlier c =
     let t = tally_within c.args.rows.now c.loop-row.row-index c.row-item.result c.loop-row-test.true c.row-item.is in
     let e = ap length c.slots.ensures in
     omega arith
 
-pub overflow-add-earlier : goal.overflow-add-earlier
-overflow-add-earlier c =
+pub overflow_add-earlier : goal.overflow_add-earlier
+overflow_add-earlier c =
     let t = tally_within c.args.rows.now c.loop-row.row-index c.row-item.result c.loop-row-test.true c.row-item.is in
     let e = ap length c.slots.ensures in
     omega arith
@@ -31,7 +31,7 @@ loop-row-preserved c =
     let k = c.loop-row.invariant in
     let s = ap length c.slots.ensures in
     let t = tally_more rs i x l e in
-    (rows_more rs i x c.loop-row.at c.loop-row.earlier c.args.buffer.now c.loop-row.buffer c.put-row.new.buffer l e c.requires.room k.1 k.2 k.0 c.put-row.ensures, omega arith, omega arith)
+    (rows_more rs i x c.loop-row.at c.loop-row.earlier c.args.buffer.now c.loop-row.buffer c.put_row.new.buffer l e c.requires.room k.1 k.2 k.0 c.put_row.ensures, omega arith, omega arith)
 
 pub returns : goal.returns
 returns c =

@@ -10,8 +10,8 @@ loop-k-init c = put_none c.args.at c.args.buffer.now
 
 pub loop-k-preserved : goal.loop-k-preserved
 loop-k-preserved c =
-    slots_more c.args.slots.now c.loop-k.k c.args.at c.args.buffer.now c.loop-k.buffer c.put-u32.new.buffer
-    c.loop-k-test.true c.requires c.loop-k.invariant c.put-u32.ensures
+    slots_more c.args.slots.now c.loop-k.k c.args.at c.args.buffer.now c.loop-k.buffer c.put_u32.new.buffer
+    c.loop-k-test.true c.requires c.loop-k.invariant c.put_u32.ensures
 
 pub returns : goal.returns
 returns c = subst (λ xs. Put c.args.at (slot_run xs) c.args.buffer.now c.loop-k.buffer) (take_all c.loop-k.k c.args.slots.now c.loop-k-test.false) c.loop-k.invariant

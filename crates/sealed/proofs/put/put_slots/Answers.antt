@@ -8,14 +8,14 @@ use Rattle.sealed.proofs.put.put_slots.Goals as goal
 pub loop-row-init : goal.loop-row-init
 loop-row-init c = (put_none (15 + 24 * length c.args.rows.now) c.args.buffer.now, omega arith)
 
-pub put-run-requires : goal.put-run-requires
-put-run-requires c =
+pub put_run-requires : goal.put_run-requires
+put_run-requires c =
     let t = tally_within c.args.rows.now c.loop-row.row-index c.row-item.result c.loop-row-test.true c.row-item.is in
     let e = ap length c.slots.ensures in
     omega arith
 
-pub overflow-add-at-in-loop-row : goal.overflow-add-at-in-loop-row
-overflow-add-at-in-loop-row c =
+pub overflow_add-at-in-loop-row : goal.overflow_add-at-in-loop-row
+overflow_add-at-in-loop-row c =
     let t = tally_within c.args.rows.now c.loop-row.row-index c.row-item.result c.loop-row-test.true c.row-item.is in
     let e = ap length c.slots-in-loop-row.ensures in
     omega arith
@@ -29,8 +29,8 @@ loop-row-preserved c =
     let e = c.row-item.is in
     let s = ap length c.slots-in-loop-row.ensures in
     let t = tally_more rs i x l e in
-    let q = subst (λ (xs : List ℕ). Put c.loop-row.at (slot_run xs) c.loop-row.buffer c.put-run.new.buffer) c.slots.ensures c.put-run.ensures in
-    (runs_more rs i x (15 + 24 * length rs) c.loop-row.at c.args.buffer.now c.loop-row.buffer c.put-run.new.buffer l e c.requires c.loop-row.invariant.1 c.loop-row.invariant.0 q, omega arith)
+    let q = subst (λ (xs : List ℕ). Put c.loop-row.at (slot_run xs) c.loop-row.buffer c.put_run.new.buffer) c.slots.ensures c.put_run.ensures in
+    (runs_more rs i x (15 + 24 * length rs) c.loop-row.at c.args.buffer.now c.loop-row.buffer c.put_run.new.buffer l e c.requires c.loop-row.invariant.1 c.loop-row.invariant.0 q, omega arith)
 
 pub returns : goal.returns
 returns c =

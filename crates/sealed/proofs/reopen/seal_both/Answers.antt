@@ -8,5 +8,5 @@ returns c =
       first = c.seal.ensures;
       second = c.seal-2.ensures;
       same = same_bytes c.args.a.now c.args.b.now c.args.left.now c.seal.new.buffer c.args.right.now c.seal-2.new.buffer c.seal.result c.seal-2.result
-          c.seal.ensures c.seal-2.ensures (λ i. omega (arith, c.type-inv.right i));
+          c.seal.ensures c.seal-2.ensures (λ i. omega (arith, c.type_inv.right i));
     }

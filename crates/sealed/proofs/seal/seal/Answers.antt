@@ -5,14 +5,14 @@ use Rattle.sealed.specs.Writing.{pairs, tally}
 use Rattle.sealed.proofs.Books.{tally_book, index_written, sealed_from}
 use Rattle.sealed.proofs.seal.seal.Goals as goal
 
-pub put-rows-requires : goal.put-rows-requires
-put-rows-requires c =
+pub put_rows-requires : goal.put_rows-requires
+put_rows-requires c =
     let b = c.args.book.now in
     let n = ap (λ rs. tally (pairs rs)) c.rows-rows.ensures ∙ tally_book b in
     record { room = omega arith; few = omega (arith, b.few) }
 
-pub put-slots-requires : goal.put-slots-requires
-put-slots-requires c =
+pub put_slots-requires : goal.put_slots-requires
+put_slots-requires c =
     let b = c.args.book.now in
     let n = ap (λ rs. tally (pairs rs)) c.rows-rows.ensures ∙ tally_book b in
     omega arith
@@ -28,9 +28,9 @@ returns c =
     let z : 15 + 24 * length rs + 4 * c.entries-entries.result ≡ index_size b = omega arith in
     let room : index_size b ≤ length u = omega arith in
     let p =
-    index_written b rs c.length.result c.entries-entries.result u c.put-head.new.buffer c.put-rows.new.buffer c.put-slots.new.buffer
-    e c.length.ensures g room (omega arith) c.put-head.ensures c.put-rows.ensures c.put-slots.ensures in
+    index_written b rs c.length.result c.entries-entries.result u c.put_head.new.buffer c.put_rows.new.buffer c.put_slots.new.buffer
+    e c.length.ensures g room (omega arith) c.put_head.ensures c.put_rows.ensures c.put_slots.ensures in
     record {
       says = ap Ok z ∙ sym (cond-false _ _ _ (le-ltb (length u) (index_size b) room));
-      written = sealed_from b u c.put-slots.new.buffer (λ i. omega (arith, c.type-inv.buffer i)) p;
+      written = sealed_from b u c.put_slots.new.buffer (λ i. omega (arith, c.type_inv.buffer i)) p;
     }

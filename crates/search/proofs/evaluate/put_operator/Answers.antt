@@ -30,12 +30,12 @@ pub returns : goal.returns
 returns c slots ps n h =
     let log : Log = record { lists = record { slots = slots; span = c.args.log.span }; trace = c.args.log.trace.now } in
     operator_done log c.args.operator c.args.place c.args.waiting.now c.pop-right.new.self c.pop-left.new.self c.pop-right.result c.pop-left.result c.args.stack.now c.args.scratch.now c.join.new.out ps n c.requires.1 h c.pop-right.ensures.top c.pop-right.ensures.rest c.pop-left.ensures.top c.pop-left.ensures.rest
-    c.in-Ok.listing.n c.in-Ok.listing.calls c.in-Ok.ensures c.push.new.self c.copy-from-slice.new.self (omega arith) (search rules) c.push.ensures
+    c.in-Ok.listing.n c.in-Ok.listing.calls c.in-Ok.ensures c.push.new.self c.copy_from_slice.new.self (omega arith) (search rules) c.push.ensures
 
-pub returns-in-default : goal.returns-in-default
-returns-in-default c slots ps n h =
+pub returns-in_default : goal.returns-in_default
+returns-in_default c slots ps n h =
     let log : Log = record { lists = record { slots = slots; span = c.args.log.span }; trace = c.args.log.trace.now } in
-    operator_over log c.args.operator c.args.place c.args.waiting.now c.pop-right.new.self c.pop-left.new.self c.pop-right.result c.pop-left.result c.args.stack.now c.args.scratch.now c.join.new.out ps n c.requires.1 h c.pop-right.ensures.top c.pop-right.ensures.rest c.pop-left.ensures.top c.pop-left.ensures.rest _ _ c.in-default.ensures
+    operator_over log c.args.operator c.args.place c.args.waiting.now c.pop-right.new.self c.pop-left.new.self c.pop-right.result c.pop-left.result c.args.stack.now c.args.scratch.now c.join.new.out ps n c.requires.1 h c.pop-right.ensures.top c.pop-right.ensures.rest c.pop-left.ensures.top c.pop-left.ensures.rest _ _ c.in_default.ensures
 
 pub returns-then-stack-base : goal.returns-then-stack-base
 returns-then-stack-base c slots ps n h =

@@ -12,14 +12,14 @@ slots_rise g s n = points_rise ((g.P.Postings.lists s).slots n) ((g.P.Postings.l
 pub loop-slot-init : goal.loop-slot-init
 loop-slot-init g c = written_none _ _ _
 
-pub returns-in-default : goal.returns-in-default
-returns-in-default g c = written_all c.loop-slot.invariant _ (search rules) (points_none _ _ (sym c.next-found.ensures ∙ c.in-default.is))
+pub returns-in_default : goal.returns-in_default
+returns-in_default g c = written_all c.loop-slot.invariant _ (search rules) (points_none _ _ (sym c.next-found.ensures ∙ c.in_default.is))
 
 pub returns-then-n-out : goal.returns-then-n-out
 returns-then-n-out g c = written_full c.loop-slot.invariant _ (points_some _ _ _ (sym c.next-found.ensures ∙ c.in-Some.is)) (omega arith)
 
-pub overflow-add-at : goal.overflow-add-at
-overflow-add-at g c =
+pub overflow_add-at : goal.overflow_add-at
+overflow_add-at g c =
     let d = written_x c.loop-slot.invariant (point c.in-Some.slot) (points_some _ _ _ (sym c.next-found.ensures ∙ c.in-Some.is)) in
     let p = proper_next (map point ((g.P.Postings.lists c.args.postings.now).slots c.args.name.now)) c.loop-slot.n (point c.in-Some.slot) _ (slots_rise g c.args.postings.now c.args.name.now) d.1 in
     omega arith

@@ -14,22 +14,22 @@ put-requires g c =
     let q : slice_get (steps c.args.query.now) c.loop-step.i ≡ Some (shown c.in-Some.step) = sym c.in-Some.ensures in
     underway_can c.loop-step.invariant (shown c.in-Some.step) q
 
-pub returns-in-err-put : goal.returns-in-err-put
-returns-in-err-put g c =
+pub returns-in_err-put : goal.returns-in_err-put
+returns-in_err-put g c =
     let q : slice_get (steps c.args.query.now) c.loop-step.i ≡ Some (shown c.in-Some.step) = sym c.in-Some.ensures in
-    let p = err_from_is_err_and c.from-residual.result c.from-residual.ensures.1 in
-    rw (p.1, p.2) (underway_stops c.loop-step.invariant (shown c.in-Some.step) q c.put.result c.put.new.waiting c.put.new.stack c.put.new.scratch c.put.ensures c.in-err-put.field-0.0 c.in-err-put.was)
+    let p = err_from_is_err_and c.from_residual.result c.from_residual.ensures.1 in
+    rw (p.1, p.2) (underway_stops c.loop-step.invariant (shown c.in-Some.step) q c.put.result c.put.new.waiting c.put.new.stack c.put.new.scratch c.put.ensures c.in_err-put.field-0.0 c.in_err-put.was)
 
 pub loop-step-preserved : goal.loop-step-preserved
 loop-step-preserved g c =
     let q : slice_get (steps c.args.query.now) c.loop-step.i ≡ Some (shown c.in-Some.step) = sym c.in-Some.ensures in
-    underway_more c.loop-step.invariant (shown c.in-Some.step) q c.put.result c.put.new.waiting c.put.new.stack c.put.new.scratch c.put.ensures c.in-ok-put.was c.put.auto.stack c.put.auto.scratch
+    underway_more c.loop-step.invariant (shown c.in-Some.step) q c.put.result c.put.new.waiting c.put.new.stack c.put.new.scratch c.put.ensures c.in_ok-put.was c.put.auto.stack c.put.auto.scratch
 
-pub overflow-add-i : goal.overflow-add-i
-overflow-add-i g c = omega (arith, nth_some (steps c.args.query.now) c.loop-step.i (shown c.in-Some.step) (sym c.in-Some.ensures), c.requires.1)
+pub overflow_add-i : goal.overflow_add-i
+overflow_add-i g c = omega (arith, nth_some (steps c.args.query.now) c.loop-step.i (shown c.in-Some.step) (sym c.in-Some.ensures), c.requires.1)
 
 pub loop-step-smaller : goal.loop-step-smaller
 loop-step-smaller g c = omega (arith, nth_some (steps c.args.query.now) c.loop-step.i (shown c.in-Some.step) (sym c.in-Some.ensures))
 
 pub returns : goal.returns
-returns g c = underway_all c.loop-step.invariant (nth_none (steps c.args.query.now) c.loop-step.i (sym c.in-default.ensures))
+returns g c = underway_all c.loop-step.invariant (nth_none (steps c.args.query.now) c.loop-step.i (sym c.in_default.ensures))

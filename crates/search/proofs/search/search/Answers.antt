@@ -17,8 +17,8 @@ returns g c =
     let text = c.args.text.now in
     let area = c.answer-answered.new.stack in
     let r = c.answer-answered.result in
-    let k = c.kept-of-kept.result in
-    let same : k ≡ kept_of r = c.kept-of-kept.ensures in
+    let k = c.kept_of-kept.result in
+    let same : k ≡ kept_of r = c.kept_of-kept.ensures in
     let fit : kept_of r ≤ length area = telling_fits log room text r area c.answer-answered.ensures in
     let n : length (take (length area - k) (drop k area)) ≡ length area - kept_of r = simp (length-take, length-drop) (omega arith) in
     let part : c.clear.new.area ≡ replicate (length area - kept_of r) blank = c.clear.ensures ∙ ap (λ v. replicate v blank) n in
@@ -29,14 +29,14 @@ returns g c =
     let law = g.P.Postings.lawful c.args.postings.now in
     record { exact = exact; sets = meaning_listed log law; few = query_few log law }
 
-pub offset-bounds-stack-kept : goal.offset-bounds-stack-kept
-offset-bounds-stack-kept g c =
-    omega (arith, c.kept-of-kept.ensures, telling_fits _ _ _ c.answer-answered.result c.answer-answered.new.stack c.answer-answered.ensures, c.answer-answered.auto.stack)
+pub offset_bounds-stack-kept : goal.offset_bounds-stack-kept
+offset_bounds-stack-kept g c =
+    omega (arith, c.kept_of-kept.ensures, telling_fits _ _ _ c.answer-answered.result c.answer-answered.new.stack c.answer-answered.ensures, c.answer-answered.auto.stack)
 
-pub slice-bounds-clear-count : goal.slice-bounds-clear-count
-slice-bounds-clear-count g c =
-    omega (arith, c.kept-of-kept.ensures, telling_fits _ _ _ c.answer-answered.result c.answer-answered.new.stack c.answer-answered.ensures, c.answer-answered.auto.stack)
+pub slice_bounds-clear-count : goal.slice_bounds-clear-count
+slice_bounds-clear-count g c =
+    omega (arith, c.kept_of-kept.ensures, telling_fits _ _ _ c.answer-answered.result c.answer-answered.new.stack c.answer-answered.ensures, c.answer-answered.auto.stack)
 
-pub slice-bounds-clear-start : goal.slice-bounds-clear-start
-slice-bounds-clear-start g c =
-    omega (arith, c.kept-of-kept.ensures, telling_fits _ _ _ c.answer-answered.result c.answer-answered.new.stack c.answer-answered.ensures, c.answer-answered.auto.stack)
+pub slice_bounds-clear-start : goal.slice_bounds-clear-start
+slice_bounds-clear-start g c =
+    omega (arith, c.kept_of-kept.ensures, telling_fits _ _ _ c.answer-answered.result c.answer-answered.new.stack c.answer-answered.ensures, c.answer-answered.auto.stack)
