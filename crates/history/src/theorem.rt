@@ -22,12 +22,12 @@ use extents::access::Access;
 use extents::extent::{Extent, Found};
 use extents::operator::Operator;
 use extents::source::Source;
-use shift_logbook::book::Logbook;
 use operators::evaluate::evaluate;
 use postings::Postings;
 use search::answer::Answer;
 use search::fault::SearchFault;
 use search::search::search;
+use shift_logbook::book::Logbook;
 
 // What an access found, how many calls were made on the logbook, and what a search answered, its refusal by number and place.
 #[derive(Clone, Copy)]

@@ -10,9 +10,9 @@ pub returns : goal.returns
 returns c =
     let T : List Extent → List Extent → List Extent → List Extent → Type 0 =
     λ begins ends alarms cuts.
-    MatchResult c.list-into.result
-    (λ l. IsListed (quiet_of begins ends alarms cuts) (quiet_calls begins ends alarms cuts) c.args.out.now c.list-into.new.out l.n l.calls)
-    (λ _. IsOverfull (quiet_of begins ends alarms cuts) c.args.out.now c.list-into.new.out) in
+    MatchResult c.list_into.result
+    (λ l. IsListed (quiet_of begins ends alarms cuts) (quiet_calls begins ends alarms cuts) c.args.out.now c.list_into.new.out l.n l.calls)
+    (λ _. IsOverfull (quiet_of begins ends alarms cuts) c.args.out.now c.list_into.new.out) in
     let a = c.args.begins.now in
     let b = c.args.ends.now in
     let x = c.args.alarms.now in
@@ -22,4 +22,4 @@ returns c =
     subst (λ v. T a b x v) c.stored-cuts.ensures
     (subst (λ v. T a b v y') c.stored-alarms.ensures
     (subst (λ v. T a v x' y') c.stored-ends.ensures
-    (subst (λ v. T v b' x' y') c.stored-begins.ensures c.list-into.ensures)))
+    (subst (λ v. T v b' x' y') c.stored-begins.ensures c.list_into.ensures)))

@@ -9,13 +9,13 @@ use Rattle.report.proofs.Fetches.{begins_are, ends_are, alarms_are, cuts_are, li
 use Rattle.report.proofs.Outcomes.{all_fits, listing_over, told}
 use Rattle.report.proofs.report.answer.Goals as goal
 
-pub list-quiet-requires : goal.list-quiet-requires
-list-quiet-requires g c =
+pub list_quiet-requires : goal.list_quiet-requires
+list_quiet-requires g c =
     let p : PostingLists = g.P.Postings.lists c.args.postings.now in
     let rises = points_list p (g.P.Postings.lawful c.args.postings.now) in
-    let s = c.fetch-names.new.stack in
-    let f = c.in-ok-fetched.fetched in
-    let h : IsFetched p s f = c.in-ok-fetched.ensures in (
+    let s = c.fetch_names.new.stack in
+    let f = c.in_ok-fetched.fetched in
+    let h : IsFetched p s f = c.in_ok-fetched.ensures in (
       subst ExtentList (sym (begins_are p s f h)) (rises rev_begin),
       (
         subst ExtentList (sym (ends_are p s f h)) (rises rev_end),
@@ -26,33 +26,33 @@ list-quiet-requires g c =
       ),
     )
 
-pub returns-in-default : goal.returns-in-default
-returns-in-default g c =
+pub returns-in_default : goal.returns-in_default
+returns-in_default g c =
     let p : PostingLists = g.P.Postings.lists c.args.postings.now in
     let room : Room = record { stack = length c.args.stack.now; scratch = length c.args.scratch.now } in
-    let s = c.fetch-names.new.stack in
-    let f = c.in-ok-fetched.fetched in
-    let h : IsFetched p s f = c.in-ok-fetched.ensures in
-    let o = overfull_by_parts p s f h c.args.scratch.now c.list-quiet.new.out c.in-default.ensures in
-    listing_over p room (all_fits p room s f h c.fetch-names.auto.stack) o.longer
+    let s = c.fetch_names.new.stack in
+    let f = c.in_ok-fetched.fetched in
+    let h : IsFetched p s f = c.in_ok-fetched.ensures in
+    let o = overfull_by_parts p s f h c.args.scratch.now c.list_quiet.new.out c.in_default.ensures in
+    listing_over p room (all_fits p room s f h c.fetch_names.auto.stack) o.longer
 
-pub slice-bounds-copy-from-slice-end : goal.slice-bounds-copy-from-slice-end
-slice-bounds-copy-from-slice-end g c =
+pub slice_bounds-copy_from_slice-end : goal.slice_bounds-copy_from_slice-end
+slice_bounds-copy_from_slice-end g c =
     let p : PostingLists = g.P.Postings.lists c.args.postings.now in
     let room : Room = record { stack = length c.args.stack.now; scratch = length c.args.scratch.now } in
-    let s = c.fetch-names.new.stack in
-    let f = c.in-ok-fetched.fetched in
-    let h : IsFetched p s f = c.in-ok-fetched.ensures in
-    let l = listed_by_parts p s f h c.args.scratch.now c.list-quiet.new.out c.in-Ok.listing.n c.in-Ok.listing.calls c.in-Ok.ensures in
-    let fit : c.in-Ok.listing.n ≤ room.stack = omega (arith, l.many, quiet_short p (g.P.Postings.lawful c.args.postings.now), all_fits p room s f h c.fetch-names.auto.stack) in
-    omega (arith, fit, c.fetch-names.auto.stack)
+    let s = c.fetch_names.new.stack in
+    let f = c.in_ok-fetched.fetched in
+    let h : IsFetched p s f = c.in_ok-fetched.ensures in
+    let l = listed_by_parts p s f h c.args.scratch.now c.list_quiet.new.out c.in-Ok.listing.n c.in-Ok.listing.calls c.in-Ok.ensures in
+    let fit : c.in-Ok.listing.n ≤ room.stack = omega (arith, l.many, quiet_short p (g.P.Postings.lawful c.args.postings.now), all_fits p room s f h c.fetch_names.auto.stack) in
+    omega (arith, fit, c.fetch_names.auto.stack)
 
 pub returns : goal.returns
 returns g c =
     let p : PostingLists = g.P.Postings.lists c.args.postings.now in
     let room : Room = record { stack = length c.args.stack.now; scratch = length c.args.scratch.now } in
-    let s = c.fetch-names.new.stack in
-    let f = c.in-ok-fetched.fetched in
-    let h : IsFetched p s f = c.in-ok-fetched.ensures in
-    let l = listed_by_parts p s f h c.args.scratch.now c.list-quiet.new.out c.in-Ok.listing.n c.in-Ok.listing.calls c.in-Ok.ensures in
-    told p room s f c.args.scratch.now c.list-quiet.new.out c.copy-from-slice.new.self _ c.in-Ok.listing.n c.in-Ok.listing.calls _ h c.fetch-names.auto.stack refl l (search rules) (search rules)
+    let s = c.fetch_names.new.stack in
+    let f = c.in_ok-fetched.fetched in
+    let h : IsFetched p s f = c.in_ok-fetched.ensures in
+    let l = listed_by_parts p s f h c.args.scratch.now c.list_quiet.new.out c.in-Ok.listing.n c.in-Ok.listing.calls c.in-Ok.ensures in
+    told p room s f c.args.scratch.now c.list_quiet.new.out c.copy_from_slice.new.self _ c.in-Ok.listing.n c.in-Ok.listing.calls _ h c.fetch_names.auto.stack refl l (search rules) (search rules)
