@@ -3,9 +3,9 @@
 
 #[cfg(test)]
 mod tests {
+    use postings::Postings;
     use shift_logbook::book::Logbook;
     use shift_logbook::refusal::EnterRefusal;
-    use postings::Postings;
     use std::process::Abort;
     use std::test::Fail;
 

@@ -4,8 +4,8 @@
 #[cfg(test)]
 mod tests {
     use extents::extent::Extent;
-    use shift_logbook::book::Logbook;
     use report::report::report;
+    use shift_logbook::book::Logbook;
     use std::process::Abort;
     use std::test::Fail;
 

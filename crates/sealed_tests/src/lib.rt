@@ -5,10 +5,10 @@
 mod tests {
     use layout::index::SealedIndex;
     use layout::refusal::OpenRefusal;
-    use shift_logbook::book::Logbook;
     use postings::Postings;
     use sealed::refusal::SealRefusal;
     use sealed::seal::seal;
+    use shift_logbook::book::Logbook;
     use std::process::Abort;
     use std::test::Fail;
 
