@@ -4,8 +4,8 @@
 use anyhow::anyhow;
 use console::command::Command;
 use console::input::{Session, run};
-use shift_logbook::book::Logbook;
 use sealed::seal::seal;
+use shift_logbook::book::Logbook;
 use std::{env, fs, io};
 
 #[derive(Drop)]

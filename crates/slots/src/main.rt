@@ -3,8 +3,8 @@
 
 use console::command::Command;
 use console::input::{Session, run};
-use shift_logbook::book::Logbook;
 use postings::Postings;
+use shift_logbook::book::Logbook;
 use std::alloc::{AllocError, Global};
 use std::collections::BTreeSet;
 use std::io;
