@@ -6,6 +6,7 @@ use anyhow::anyhow;
 use console::command::Command;
 use console::input::{Session, run};
 use layout::index::SealedIndex;
+use std::process::ExitCode;
 use std::{env, fs, io};
 
 #[derive(Drop)]
@@ -51,10 +52,12 @@ fn ask_file(rt: &HostRuntime) -> anyhow::Result<()> {
     }
 }
 
-fn main(rt: HostRuntime) -> anyhow::Result<()> {
-    let asked = ask_file(&rt);
-    if let Err(e) = &asked {
-        let _ = eprintln!(rt; "ask: {e}");
+fn main(rt: HostRuntime) -> ExitCode {
+    match ask_file(&rt) {
+        Ok(()) => ExitCode::SUCCESS,
+        Err(e) => {
+            let _ = eprintln!(rt; "ask: {e}");
+            ExitCode::FAILURE
+        }
     }
-    asked
 }

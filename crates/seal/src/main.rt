@@ -6,6 +6,7 @@ use console::command::Command;
 use console::input::{Session, run};
 use sealed::seal::seal;
 use shift_logbook::book::Logbook;
+use std::process::ExitCode;
 use std::{env, fs, io};
 
 #[derive(Drop)]
@@ -77,10 +78,12 @@ fn seal_shift(rt: &HostRuntime) -> anyhow::Result<()> {
     Ok(())
 }
 
-fn main(rt: HostRuntime) -> anyhow::Result<()> {
-    let sealed = seal_shift(&rt);
-    if let Err(e) = &sealed {
-        let _ = eprintln!(rt; "seal: {e}");
+fn main(rt: HostRuntime) -> ExitCode {
+    match seal_shift(&rt) {
+        Ok(()) => ExitCode::SUCCESS,
+        Err(e) => {
+            let _ = eprintln!(rt; "seal: {e}");
+            ExitCode::FAILURE
+        }
     }
-    sealed
 }
