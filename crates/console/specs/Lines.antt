@@ -3,7 +3,7 @@
 --   line_limit   the most bytes of a line that is read
 --   readable     a line as it is read: its bytes, or none where it has too many
 --   Gathers      a buffer has taken in these bytes since the line began
-use Rattle.std.specs.Prelude.{◌≡◌, ℕ, min, Bool, cond, List, length, take, Some, None, Option, nat_le, nat_lt}
+use Rattle.std.specs.Prelude.{◌≡◌, ℕ, min, cond, List, length, take, Some, None, Option, nat_le, nat_lt}
 use Rattle.console.specs.declared.buffer.LineBuffer.{LineBuffer}
 
 abbrev pub line_limit : ℕ

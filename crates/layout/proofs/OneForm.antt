@@ -4,7 +4,7 @@ use native.Mathlib.Nat.{mod-add-div}
 use Rattle.std.proofs.lemmas.List.{get_or-take, get_or-drop, ext_get_or}
 use Rattle.std.proofs.lemmas.Bool.{cases_lt, cases_order}
 use Rattle.postings.specs.Lists.{PostingLists}
-use Rattle.layout.specs.Fields.{le16, le32, mark, names, span, total, row_at, trim, name_field, name, earlier, count, slot}
+use Rattle.layout.specs.Fields.{le16, le32, names, span, total, row_at, trim, name_field, name, earlier, count, slot}
 use Rattle.layout.specs.Layout.{counted, Obeys}
 use Rattle.layout.specs.Meaning.{Row, row, row_slots, rows, meaning}
 use Rattle.layout.specs.Obeyed.{located}

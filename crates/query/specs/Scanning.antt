@@ -12,7 +12,7 @@
 -- | scan_by, scan_at | what begins at a place that holds no space; past the last byte, the end   |
 -- | scan_from, scan | what stands in a text from a place on, spaces passed over; `scan` is kept shut |
 -- | Lexes bs p ts q | ts are the tokens of bs from the place p to the place q                  |
-use Rattle.std.specs.Prelude.{◌≡◌, ℕ, ◌+◌, Bool, cond, ◌&&◌, ◌||◌, List, [], ◌∷◌, length, take, drop, Ok, Err, Result, ◌==◌, nat_le, nat_lt, slice_index}
+use Rattle.std.specs.Prelude.{◌≡◌, ℕ, ◌+◌, Bool, cond, List, [], ◌∷◌, length, take, drop, Ok, Err, Result, ◌==◌, nat_le, nat_lt, slice_index}
 use Rattle.std.specs.List.{prefix_len}
 use Rattle.std.specs.Str.Parse.{digits_value}
 use Rattle.std.specs.Char.{is_ascii_digit}

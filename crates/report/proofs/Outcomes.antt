@@ -6,7 +6,7 @@ use Rattle.std.proofs.lemmas.Bool.{lt-ltb, le-ltb}
 use Rattle.postings.specs.Lists.{PostingLists}
 use Rattle.extents.specs.declared.extent.Extent.{Extent}
 use Rattle.extents.specs.Counts.{capped}
-use Rattle.operators.specs.Listing.{IsListed, IsOverfull}
+use Rattle.operators.specs.Listing.{IsListed}
 use Rattle.search.specs.declared.answer.Answer.{Answer}
 use Rattle.search.specs.Law.{Room}
 use Rattle.search.specs.Searches.{blank}

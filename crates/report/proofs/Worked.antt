@@ -1,5 +1,5 @@
 -- The worked example. Assumes nothing.
-use Rattle.std.proofs.Common.{◌≡◌, ℕ, ◌+◌, ◌-◌, ◌≤◌, List, [], ◌∷◌, ◌++◌, map, length, replicate, None, Ok, Result, sym, refl, ap, ◌∙◌, subst, arith}
+use Rattle.std.proofs.Common.{◌≡◌, ℕ, ◌+◌, ◌-◌, List, [], ◌∷◌, ◌++◌, map, length, replicate, None, Ok, Result, refl, ap, ◌∙◌, subst, arith}
 use Rattle.postings.specs.Lists.{PostingLists}
 use Rattle.containment.specs.Filter.{kept, walk_calls, ahead_calls}
 use Rattle.combination.specs.Followed.{followed, followed_first_start_calls}
@@ -13,7 +13,7 @@ use Rattle.search.specs.Law.{Room}
 use Rattle.search.specs.Meaning.{point}
 use Rattle.search.specs.Searches.{blank}
 use Rattle.report.specs.declared.fault.ReportFault.{ReportFault}
-use Rattle.report.specs.Quiet.{rev_begin, rev_end, alarm, cut, points, quiet_of, quiet_reversals}
+use Rattle.report.specs.Quiet.{rev_begin, rev_end, alarm, cut, quiet_of, quiet_reversals}
 use Rattle.report.specs.Law.{quiet_calls, report_calls, report_fault, all_fetched}
 use Rattle.report.specs.Reports.{Answers, Found}
 use Rattle.report.specs.Sample.{SampleLog, SampleHolds}

@@ -1,6 +1,6 @@
 -- The end of a search. Assumes nothing.
-use Rattle.std.proofs.Common.{◌≡◌, ℕ, ◌+◌, ◌-◌, ◌<◌, ◌≤◌, ltb, List, [], ◌∷◌, ◌++◌, length, get_or, take, drop, Some, None, Ok, Err, Option, Result, sym, refl, ap, ◌∙◌, subst, arith}
-use Rattle.std.proofs.lemmas.Bool.{lt-ltb, le-ltb}
+use Rattle.std.proofs.Common.{◌≡◌, ℕ, ◌+◌, ◌≤◌, List, [], ◌∷◌, ◌++◌, length, get_or, take, drop, None, Ok, Result, sym, refl, ap, ◌∙◌, subst, arith}
+use Rattle.std.proofs.lemmas.Bool.{le-ltb}
 use Rattle.std.proofs.lemmas.List.{take_at, length-append}
 use Rattle.extents.specs.declared.extent.Extent.{Extent}
 use Rattle.extents.specs.declared.access.Access.TheVariants.{FirstStart}
@@ -12,13 +12,12 @@ use Rattle.query.specs.Expressions.{Expr, name, windows, runs, apply, postfix}
 use Rattle.query.specs.Terminals.{Placed}
 use Rattle.search.specs.declared.answer.Answer.{Answer}
 use Rattle.search.specs.declared.fault.SearchFault.{SearchFault}
-use Rattle.search.specs.declared.operand.Operand.{Operand}
 use Rattle.search.specs.declared.operand.Operand.TheVariants.{Stored, Windows, Runs}
 use Rattle.search.specs.declared.operand_stack.OperandStack.{OperandStack}
 use Rattle.search.specs.Meaning.{Log, listed}
-use Rattle.search.specs.Law.{Room, first_of, listing, operand_fault, query_fault, operand_calls, query_calls, each_one}
-use Rattle.search.specs.Run.{Pending, stored, wide, hot, Outcome, done, refused, unless, pending, first_place}
-use Rattle.search.specs.Stacks.{Stacked, Ran}
+use Rattle.search.specs.Law.{Room, listing, operand_fault, query_fault, operand_calls, query_calls, each_one}
+use Rattle.search.specs.Run.{stored, pending, first_place}
+use Rattle.search.specs.Stacks.{Stacked}
 use Rattle.search.specs.Told.{Told}
 
 -- a source that is the whole query, listed and stored

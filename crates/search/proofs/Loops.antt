@@ -1,5 +1,5 @@
 -- A run underway. Assumes nothing.
-use Rattle.std.proofs.Common.{◌≡◌, ℕ, zero, suc, ◌+◌, ◌-◌, ◌<◌, ◌≤◌, ltb, List, [], ◌∷◌, length, drop, replicate, Some, None, Ok, Err, Option, Result, sym, refl, ap, ◌∙◌, subst, arith}
+use Rattle.std.proofs.Common.{◌≡◌, ℕ, zero, suc, ◌+◌, ◌<◌, ◌≤◌, List, [], ◌∷◌, length, drop, replicate, Some, None, Ok, Err, Option, Result, sym, refl, ap, ◌∙◌, subst, arith}
 use Rattle.std.specs.List.{slice_get}
 use Rattle.std.proofs.lemmas.List.{drop_all}
 use Rattle.extents.specs.declared.extent.Extent.{Extent}
@@ -9,7 +9,7 @@ use Rattle.search.specs.declared.operand.Operand.TheVariants.{Stored}
 use Rattle.search.specs.declared.operand_stack.OperandStack.{OperandStack}
 use Rattle.search.specs.Meaning.{Log}
 use Rattle.search.specs.Law.{Room}
-use Rattle.search.specs.Run.{Pending, stored, wide, hot, Outcome, done, refused, unless, after, step, run, Fits, FitsWord, then_wait}
+use Rattle.search.specs.Run.{Pending, wide, hot, Outcome, done, refused, unless, after, step, run, Fits, FitsWord, then_wait}
 use Rattle.search.specs.Stacks.{Stacked, SomeStacked, Answers, Ran}
 
 nth_drop : (ts : List Placed) (i : ℕ) (t : Placed) → slice_get ts i ≡ Some t → drop i ts ≡ t ∷ drop (i + 1) ts

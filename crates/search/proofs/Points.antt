@@ -1,8 +1,7 @@
 -- Slots as extents of one place. Assumes nothing.
-use Rattle.std.proofs.Common.{◌≡◌, ℕ, zero, suc, ◌+◌, ◌<◌, ◌≤◌, true, false, cond, leb, List, [], ◌∷◌, map, length, get_or, Some, None, Option, sym, refl, ap, ◌∙◌, subst, arith}
+use Rattle.std.proofs.Common.{◌≡◌, ℕ, suc, ◌<◌, leb, List, [], ◌∷◌, map, length, get_or, Some, None, sym, refl, ap, arith}
 use Rattle.std.specs.List.{AllByRecursion}
-use Rattle.extents.specs.declared.extent.Extent.{Extent}
-use Rattle.extents.specs.Extents.{Before, ExtentList, first_start, find_first}
+use Rattle.extents.specs.Extents.{Before, ExtentList, first_start}
 use Rattle.extents.specs.Finds.{by_test}
 use Rattle.postings.specs.Rising.{Rising, first_from}
 use Rattle.search.specs.Meaning.{point}

@@ -1,10 +1,10 @@
 -- The list of an expression has exactly its set. Assumes nothing.
-use Rattle.std.proofs.Common.{◌≡◌, ℕ, ◌+◌, ◌<◌, ◌⊎◌, List, [], ◌∷◌, map, length, sym, refl, ap, ◌∙◌, subst, inl, inr, ⊎_elim, arith}
+use Rattle.std.proofs.Common.{◌≡◌, ℕ, List, [], ◌∷◌, map, refl, ap, ◌∙◌, inl, inr, ⊎_elim, arith}
 use Rattle.extents.specs.declared.extent.Extent.{Extent}
 use Rattle.extents.specs.declared.operator.Operator.{Operator}
 use Rattle.extents.specs.declared.operator.Operator.TheVariants.{ContainedIn, NotContainedIn, Containing, NotContaining, BothOf, OneOf, FollowedBy}
-use Rattle.extents.specs.Extents.{Mem, ExtentList}
-use Rattle.extents.specs.Regions.{SomeIn, Least, operator_set, Members, Iff, Lists}
+use Rattle.extents.specs.Extents.{Mem}
+use Rattle.extents.specs.Regions.{SomeIn, Least, operator_set, Members, Lists}
 use Rattle.extents.specs.Runs.{runs_listed}
 use Rattle.extents.specs.WindowLists.{windows_listed}
 use Rattle.operators.proofs.Sets.{operator_listed}

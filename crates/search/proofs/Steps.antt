@@ -1,5 +1,5 @@
 -- What one step leaves of the operand stack and the stack area. Assumes nothing.
-use Rattle.std.proofs.Common.{◌≡◌, ℕ, ◌+◌, ◌-◌, ◌<◌, ◌≤◌, ltb, List, [], ◌∷◌, ◌++◌, map, length, get_or, take, drop, set, ℤ, Ok, Err, Result, sym, refl, ap, ◌∙◌, subst, arith}
+use Rattle.std.proofs.Common.{◌≡◌, ℕ, ◌+◌, ◌-◌, ◌<◌, ◌≤◌, List, [], ◌∷◌, ◌++◌, map, length, get_or, take, drop, set, Ok, Err, sym, refl, ap, ◌∙◌, subst, arith}
 use borrow.Rule.Slice.PartMut.{put_mid}
 use Rattle.std.proofs.lemmas.Bool.{lt-ltb, le-ltb}
 use Rattle.std.proofs.lemmas.List.{append_assoc, append-nil, take_at, drop_at, length-take-le, length-take, length-drop, length-append}
@@ -13,8 +13,7 @@ use Rattle.extents.specs.Runs.{runs_rise}
 use Rattle.operators.specs.Listing.{list_calls, IsListed, IsOverfull}
 use Rattle.operators.specs.Operators.{operator_list, first_start_calls}
 use Rattle.operators.proofs.Sets.{operator_listed}
-use Rattle.query.specs.Terminals.{ident, operator}
-use Rattle.search.specs.declared.fault.SearchFault.{SearchFault}
+use Rattle.query.specs.Terminals.{ident}
 use Rattle.search.specs.declared.fault.SearchFault.TheVariants.{ListingOver, StackOver}
 use Rattle.search.specs.declared.operand.Operand.{Operand}
 use Rattle.search.specs.declared.operand.Operand.TheVariants.{Stored}
@@ -22,8 +21,8 @@ use Rattle.search.specs.declared.operand_stack.OperandStack.{OperandStack}
 use Rattle.search.specs.Meaning.{Log, point}
 use Rattle.search.specs.Law.{Room, stacking, operator_listing, each_one}
 use Rattle.search.specs.Run.{Pending, stored, wide, hot, extents_of, kept, noted, seen, size, filled, Outcome, done, unless, operate_on, step}
-use Rattle.search.specs.Stacks.{Stacked, SomeStacked, Answers}
-use Rattle.search.proofs.Heaps.{stacked_push, stacked_pop, Popped, seen_noted}
+use Rattle.search.specs.Stacks.{Stacked, Answers}
+use Rattle.search.proofs.Heaps.{stacked_push, stacked_pop, seen_noted}
 
 -- a part that is written over
 put_front : (a k : ℕ) (xs ys zs r : List Extent) → a ≤ length xs → ys ≡ zs ++ r → take (length zs) (drop a (put_mid a k xs ys)) ≡ zs

@@ -1,14 +1,14 @@
 -- The steps of a query: they can be run, and come to what the law says. Assumes nothing.
-use Rattle.std.proofs.Common.{◌≡◌, ℕ, ◌+◌, ◌-◌, ◌<◌, ◌≤◌, List, [], ◌∷◌, ◌++◌, map, length, Some, None, Option, sym, refl, ap, ◌∙◌, subst, append_assoc, append-nil, arith}
+use Rattle.std.proofs.Common.{◌≡◌, ℕ, ◌+◌, ◌-◌, ◌≤◌, List, [], ◌∷◌, ◌++◌, length, Some, None, Option, sym, refl, ap, ◌∙◌, subst, append_assoc, append-nil, arith}
 use Rattle.extents.specs.declared.extent.Extent.{Extent}
 use Rattle.extents.specs.declared.operator.Operator.{Operator}
 use Rattle.operators.specs.Operators.{operator_list}
 use Rattle.query.specs.Expressions.{Expr, name, windows, runs, apply, postfix, leaves}
-use Rattle.query.specs.Terminals.{ident, hash, atsign, operator, Placed}
+use Rattle.query.specs.Terminals.{operator, Placed}
 use Rattle.search.specs.declared.fault.SearchFault.{SearchFault}
 use Rattle.search.specs.Meaning.{Log, listed}
 use Rattle.search.specs.Law.{Room, first_of, listing, held, operand_fault, operand_calls, operator_listing}
-use Rattle.search.specs.Run.{Pending, stored, wide, hot, extents_of, kept, filled, Outcome, done, refused, unless, after, operate, step, run, Fits, pending}
+use Rattle.search.specs.Run.{Pending, stored, wide, hot, extents_of, kept, filled, Outcome, done, unless, after, operate, run, Fits, pending}
 
 leaves_some : (e : Expr) → 1 ≤ leaves e
 leaves_some (name n at) = omega arith

@@ -1,4 +1,4 @@
-use Rattle.std.proofs.Common.{◌≡◌, ℕ, length, sym, ap, ◌∙◌, subst}
+use Rattle.std.proofs.Common.{ℕ, subst}
 use Rattle.operators.proofs.Sets.{operator_listed}
 use Rattle.search.specs.Law.{Room}
 use Rattle.search.specs.Meaning.{Log}

@@ -1,6 +1,5 @@
 use Rattle.std.proofs.Common.{◌≡◌, ◌+◌, ◌-◌, drop, sym, refl, arith}
 use Rattle.std.specs.List.{prefix_len}
-use Rattle.std.specs.Str.Parse.{digits_value}
 use Rattle.query.specs.Scanning.{digit}
 use Rattle.query.proofs.Runs.{run_more, run_stops, run_ends, amount_more, amount_none, amount_some, amount_over}
 use Rattle.query.proofs.lexer.amount.Goals as goal

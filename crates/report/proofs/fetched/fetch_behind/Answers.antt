@@ -1,4 +1,4 @@
-use Rattle.std.proofs.Common.{refl, arith, rules}
+use Rattle.std.proofs.Common.{refl, rules}
 use Rattle.report.proofs.Fronts.{behind, not_behind}
 use Rattle.report.proofs.fetched.fetch_behind.Goals as goal
 

@@ -1,4 +1,4 @@
-use Rattle.std.proofs.Common.{◌≡◌, List, subst, MatchResult}
+use Rattle.std.proofs.Common.{List, subst, MatchResult}
 use Rattle.extents.specs.declared.extent.Extent.{Extent}
 use Rattle.operators.specs.Listing.{IsListed, IsOverfull}
 use Rattle.report.specs.Quiet.{quiet_of}

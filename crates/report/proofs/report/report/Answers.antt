@@ -6,7 +6,6 @@ use Rattle.search.specs.Law.{Room}
 use Rattle.search.specs.Searches.{blank}
 use Rattle.report.specs.Law.{report_fault}
 use Rattle.report.specs.Reports.{Answers}
-use Rattle.report.specs.Stored.{kept_of}
 use Rattle.report.proofs.Exact.{quiet_listed}
 use Rattle.report.proofs.Outcomes.{kept_fits, reported}
 use Rattle.report.proofs.Worked.{sample_holds}

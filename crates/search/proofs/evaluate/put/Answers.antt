@@ -1,10 +1,9 @@
-use Rattle.std.proofs.Common.{◌≡◌, ◌^◌, ◌<◌, length, Ok, sym, refl, subst, arith}
+use Rattle.std.proofs.Common.{◌<◌, length, Ok, sym, refl, subst, arith}
 use Rattle.query.specs.Queries.{shown_action}
 use Rattle.search.specs.Meaning.{Log}
 use Rattle.search.specs.Law.{Room}
 use Rattle.search.specs.Run.{step, wide, hot, FitsWord}
 use Rattle.search.specs.Stacks.{Answers}
-use Rattle.search.proofs.evaluate.put.Given as given
 use Rattle.search.proofs.evaluate.put.Goals as goal
 
 pub put_lazy-requires : goal.put_lazy-requires

@@ -1,6 +1,6 @@
-use Rattle.std.proofs.Common.{◌≡◌, ◌+◌, [], ◌∷◌, length, take, drop, sym, refl, ap, ◌∙◌, subst, arith}
+use Rattle.std.proofs.Common.{◌≡◌, ◌+◌, ◌∷◌, length, take, drop, sym, refl, ap, ◌∙◌, subst, arith}
 use Rattle.extents.specs.Extents.{ExtentList}
-use Rattle.search.specs.Run.{size, noted, kept, filled}
+use Rattle.search.specs.Run.{size, kept, filled}
 use Rattle.search.specs.Stacks.{Stacked}
 use Rattle.search.proofs.Heaps.{stacked_push, size_noted}
 use Rattle.search.proofs.evaluate.put_lazy.Goals as goal

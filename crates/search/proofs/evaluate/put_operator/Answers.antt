@@ -1,4 +1,4 @@
-use Rattle.std.proofs.Common.{◌≡◌, ◌+◌, ◌-◌, ◌<◌, ◌≤◌, List, [], ◌∷◌, length, take, drop, sym, ap, ◌∙◌, subst, arith, rules}
+use Rattle.std.proofs.Common.{◌-◌, take, drop, ap, arith, rules}
 use Rattle.extents.specs.Extents.{ExtentList}
 use Rattle.search.specs.Meaning.{Log}
 use Rattle.search.proofs.Heaps.{pop_can, pop_sound}

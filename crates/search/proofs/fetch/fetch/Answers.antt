@@ -1,4 +1,4 @@
-use Rattle.std.proofs.Common.{◌≡◌, ℕ, ◌+◌, List, map, sym, ap, ◌∙◌, arith, rules}
+use Rattle.std.proofs.Common.{ℕ, List, map, sym, ◌∙◌, arith, rules}
 use Rattle.extents.specs.Extents.{ExtentList}
 use Rattle.search.proofs.fetch.fetch.Given as given
 use Rattle.search.specs.Meaning.{point}

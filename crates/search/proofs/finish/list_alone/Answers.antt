@@ -1,4 +1,4 @@
-use Rattle.std.proofs.Common.{◌≡◌, length, take, refl, arith, rules}
+use Rattle.std.proofs.Common.{length, refl, arith, rules}
 use Rattle.search.proofs.Finals.{alone_done}
 use Rattle.search.proofs.finish.list_alone.Goals as goal
 

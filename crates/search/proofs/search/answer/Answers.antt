@@ -1,12 +1,11 @@
-use Rattle.std.proofs.Common.{◌≡◌, ℕ, ◌≤◌, [], length, None, Ok, Err, sym, refl, ap, ◌∙◌, subst, arith}
+use Rattle.std.proofs.Common.{◌≡◌, ℕ, [], length, None, Ok, Err, sym, subst, arith}
 use Rattle.std.proofs.lemmas.Result.{err_from_is_err_and}
 use Rattle.query.specs.Expressions.{postfix}
-use Rattle.query.specs.Queries.{steps}
 use Rattle.search.specs.Law.{Room, operand_fault, query_calls, query_fault}
 use Rattle.search.specs.Meaning.{Log, listed}
 use Rattle.search.specs.Run.{run}
 use Rattle.search.specs.Stacks.{Ran}
-use Rattle.search.specs.Told.{Told, Telling}
+use Rattle.search.specs.Told.{Told}
 use Rattle.search.proofs.Tells.{misread_tells, read_tells, answered_fits, trace_tells, run_ok, run_tells, end_tells}
 use Rattle.search.proofs.search.answer.Goals as goal
 
