@@ -70,8 +70,8 @@ module _ (ls rs : List Extent) where
   -- what an access finds in the operator's list is its answer over the operator's set
   pub operator_answered : (op met : Operator) → op ≡ met → (a : Access) (k : ℕ) (o : Option Extent) → ExtentList ls → ExtentList rs → o ≡ found a (operator_list met ls rs) k → Answer a k (operator_set op (Members ls) (Members rs)) o
   operator_answered op met is a k o hl hr e =
-      let list-is : operator_list met ls rs ≡ operator_list op ls rs = ap (λ v. operator_list v ls rs) (sym is) in
-      subst (Answer a k (operator_set op (Members ls) (Members rs))) (sym (e ∙ ap (λ xs. found a xs k) list-is)) (answered a k _ (operator_list op ls rs) (operator_listed op hl hr))
+      let list_is : operator_list met ls rs ≡ operator_list op ls rs = ap (λ v. operator_list v ls rs) (sym is) in
+      subst (Answer a k (operator_set op (Members ls) (Members rs))) (sym (e ∙ ap (λ xs. found a xs k) list_is)) (answered a k _ (operator_list op ls rs) (operator_listed op hl hr))
 
   pub operator_counted : (op met : Operator) → op ≡ met → (cl cr : Access → ℕ → ℕ) (a : Access) (k n : ℕ) → n ≡ operator_calls met ls cl rs cr a k → n ≡ operator_calls op ls cl rs cr a k
   operator_counted op met is cl cr a k n e = e ∙ ap (λ v. operator_calls v ls cl rs cr a k) (sym is)

@@ -29,7 +29,7 @@ module _ (p : ℕ → Bool) (bs : List ℕ) (from at : ℕ) where
 abbrev pub Sofar : ℕ → ℕ → ℕ → Type 0
 Sofar limit n v = (n ≤ limit * 10 + 9) × (n ≤ limit → n ≡ v) × (limit < n → limit < v)
 
-module _ (bs : List ℕ) (a after : ℕ) (from : a ≤ after) (in-bs : after < length bs) (is_digit : digit (get_or bs after 0) ≡ true) where
+module _ (bs : List ℕ) (a after : ℕ) (from : a ≤ after) (in_bs : after < length bs) (is_digit : digit (get_or bs after 0) ≡ true) where
   value_step : digits_value 10 (take (after + 1 - a) (drop a bs)) ≡ digits_value 10 (take (after - a) (drop a bs)) * 10 + (get_or bs after 0 - 48)
   value_step =
       let i : after + 1 - a ≡ after - a + 1 = omega arith in
@@ -47,7 +47,7 @@ module _ (bs : List ℕ) (a after : ℕ) (from : a ≤ after) (in-bs : after < l
       (λ h. let e = low h in let f = so.1 h in (omega arith, λ k. omega arith, λ k. omega arith))
       (cases_lt limit n))
 
-module _ (limit : ℕ) (bs : List ℕ) (at ld v : ℕ) (is-ld : prefix_len digit bs ≡ ld) (is-v : digits_value 10 (take ld bs) ≡ v) where
+module _ (limit : ℕ) (bs : List ℕ) (at ld v : ℕ) (is_ld : prefix_len digit bs ≡ ld) (is_v : digits_value 10 (take ld bs) ≡ v) where
   pub amount_none : ld ≡ 0 → Err (Unknown at) ≡ amount_at limit bs at
   amount_none h = grind (arith, nat_tests)
 

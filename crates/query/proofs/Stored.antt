@@ -13,7 +13,7 @@ part_is xs at n from count f c =
     let a : length xs ≤ from = omega arith in
     let b : length xs ≤ at = omega arith in
     rw (drop_all from xs a, drop_all at xs b) (take_all (from + count - from) [] (omega arith) ∙ sym (take_all n [] (omega arith))))
-    (λ in-xs.
+    (λ in_xs.
     let same : from ≡ at = omega arith in
     ⊎_elim
     (λ over.

@@ -283,13 +283,13 @@ unexpected_after d n at after code.Close other unclosed = absurd (unclosed refl)
 unexpected_after d n at after code.End other unclosed = cond-false _ _ _ (ne_eqb (d + 1) 0 (λ z. omega arith))
 
 pub unexpected_last : (n at after : ℕ) (t : Token·) → NotOperator (terminal t) → (t ≡ code.End → ⊥) → meet (after_term 0 n) (terminal t) at after ≡ stops (Unexpected at)
-unexpected_last n at after (code.Name s) other open-ended = refl
-unexpected_last n at after (code.Windows v) other open-ended = refl
-unexpected_last n at after (code.Runs v) other open-ended = refl
-unexpected_last n at after (code.Operator o) other open-ended = absurd other
-unexpected_last n at after code.Open other open-ended = refl
-unexpected_last n at after code.Close other open-ended = refl
-unexpected_last n at after code.End other open-ended = absurd (open-ended refl)
+unexpected_last n at after (code.Name s) other open_ended = refl
+unexpected_last n at after (code.Windows v) other open_ended = refl
+unexpected_last n at after (code.Runs v) other open_ended = refl
+unexpected_last n at after (code.Operator o) other open_ended = absurd other
+unexpected_last n at after code.Open other open_ended = refl
+unexpected_last n at after code.Close other open_ended = refl
+unexpected_last n at after code.End other open_ended = absurd (open_ended refl)
 
 pub unexpected_before : (d n at after : ℕ) (t : Token·) → (Leaf (terminal t) → ⊥) → (t ≡ code.Open → ⊥) → meet (before_term d n) (terminal t) at after ≡ stops (Unexpected at)
 unexpected_before d n at after (code.Name s) other shut = absurd (other tt)

@@ -1,9 +1,9 @@
 -- The number and the place of each fault. Assumes nothing.
 --
--- | definition | meaning                                        |
--- |------------|------------------------------------------------|
--- | token_refusal | the number and the place of a token's fault    |
--- | read_refusal  | the number and the place of a reading's fault  |
+-- | definition    | meaning                                       |
+-- |---------------|-----------------------------------------------|
+-- | token_refusal | the number and the place of a token's fault   |
+-- | read_refusal  | the number and the place of a reading's fault |
 use Rattle.std.specs.Prelude.{ℕ}
 use Rattle.query.specs.declared.fault.TokenFault.{TokenFault}
 use Rattle.query.specs.declared.fault.TokenFault.TheVariants.{Unknown, Over}

@@ -4,12 +4,12 @@
 -- |------------|-------------------------------------------------------------------------------|
 -- | Scan       | a terminal with the place where it begins and the place after it, or a fault  |
 -- | space, digit | tests of a byte                                                             |
--- | begin_of    | how a byte can begin a token                                                  |
--- | name_at     | the longest run of name bytes, a fault where it is too long                   |
--- | amount_at   | the digits after a `#` or `@`, as far as they go: the number that they write and the place after them, a fault where there is none or the number is too large |
+-- | begin_of   | how a byte can begin a token                                                  |
+-- | name_at    | the longest run of name bytes, a fault where it is too long                   |
+-- | amount_at  | the digits after a `#` or `@`, as far as they go: the number that they write and the place after them, a fault where there is none or the number is too large |
 -- | marked     | a `#` or an `@` with its number, as a scan                                    |
--- | not_at      | the operator that begins with `!`                                             |
--- | scan_by, scan_at | what begins at a place that holds no space; past the last byte, the end   |
+-- | not_at     | the operator that begins with `!`                                             |
+-- | scan_by, scan_at | what begins at a place that holds no space; past the last byte, the end |
 -- | scan_from, scan | what stands in a text from a place on, spaces passed over; `scan` is kept shut |
 -- | Lexes bs p ts q | ts are the tokens of bs from the place p to the place q                  |
 use Rattle.std.specs.Prelude.{◌≡◌, ℕ, ◌+◌, Bool, cond, List, [], ◌∷◌, length, take, drop, Ok, Err, Result, ◌==◌, nat_le, nat_lt, slice_index}

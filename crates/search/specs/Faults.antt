@@ -1,7 +1,7 @@
 -- The number and the place of a search's fault. Assumes nothing.
 --
--- | definition  | meaning                                                                                     |
--- |-------------|---------------------------------------------------------------------------------------------|
+-- | definition     | meaning                                                                                     |
+-- |----------------|---------------------------------------------------------------------------------------------|
 -- | search_refusal | the number and the place: a reading fault keeps its own; 20 at 0 for a trace longer than the log; 21 for a list longer than the scratch area, 22 for more extents than the stack area has room for, both at the token that was run |
 use Rattle.std.specs.Prelude.{ℕ}
 use Rattle.query.specs.Faults.{read_refusal}

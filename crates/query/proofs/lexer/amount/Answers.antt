@@ -9,11 +9,11 @@ pub loop-after-preserved : goal.loop-after-preserved
 loop-after-preserved c =
     let bs = c.args.text.now in
     let go = sym c.if-is_ascii_digit.ensures.value in
-    let in-bs = c.loop-after-test.true in
+    let in_bs = c.loop-after-test.true in
     let inv = c.loop-after.invariant in (
       omega arith,
-      run_more digit bs (c.args.place + 1) c.loop-after.after inv.1 in-bs go,
-      amount_more bs (c.args.place + 1) c.loop-after.after inv.0 in-bs go c.from-limit.result c.loop-after.n c.if-n-limit.n inv.2
+      run_more digit bs (c.args.place + 1) c.loop-after.after inv.1 in_bs go,
+      amount_more bs (c.args.place + 1) c.loop-after.after inv.0 in_bs go c.from-limit.result c.loop-after.n c.if-n-limit.n inv.2
           (λ low. elim c.if-n-limit.branch [ then-n-limit w ↦ omega (arith, w.n-is, w.from.ensures) | else-n-limit w ↦ absurd (omega (arith, w.if-n-limit.false)) ])
           (λ high. elim c.if-n-limit.branch [ then-n-limit w ↦ absurd (omega (arith, w.if-n-limit.true)) | else-n-limit w ↦ w.n-is ]),
     )

@@ -19,7 +19,7 @@ returns c =
     let kept : Stored = get_or self.steps i (record { kind = Name 0; place = 0 }) in
     let full : length self.steps ≡ 63 = omega arith in
     let in_all : i < length self.steps = omega (arith, c.len.ensures.few, c.if-i-len.false) in
-    let in-steps : i < self.len = omega (arith, c.len.ensures.count, c.if-i-len.false, length_steps (stored bs) self.len self.steps) in
+    let in_steps : i < self.len = omega (arith, c.len.ensures.count, c.if-i-len.false, length_steps (stored bs) self.len self.steps) in
     let action : shown_action c.match-kind.action ≡ stored_kind bs kept.place kept.kind =
     elim c.match-kind.branch [
       | in-Name w ↦ ap shown_action w.action-is ∙ ap ident w.part.ensures ∙ sym (ap (stored_kind bs kept.place) w.in-Name.is)
@@ -27,4 +27,4 @@ returns c =
       | in-Runs w ↦ ap shown_action w.action-is ∙ sym (ap (stored_kind bs kept.place) w.in-Runs.is)
       | in-Apply w ↦ ap shown_action w.action-is ∙ sym (ap (stored_kind bs kept.place) w.in-Apply.is)
     ] in
-    ap (λ t. Some (t, kept.place)) action ∙ sym (nth_steps (stored bs) self.len self.steps i kept in-steps (slice_get-get_or self.steps i (record { kind = Name 0; place = 0 }) in_all))
+    ap (λ t. Some (t, kept.place)) action ∙ sym (nth_steps (stored bs) self.len self.steps i kept in_steps (slice_get-get_or self.steps i (record { kind = Name 0; place = 0 }) in_all))
