@@ -1,12 +1,13 @@
 -- How long the operators' lists are, and what it costs to list them. Assumes nothing.
-use Rattle.std.proofs.Common.{◌≡◌, ℕ, ◌+◌, ◌-◌, ◌*◌, ◌≤◌, max, Bool, true, false, leb, ◌⊎◌, List, [], ◌∷◌, ◌++◌, length, Some, None, filter, Option, sym, refl, ap, ◌∙◌, subst, inl, inr, ⊎_elim, arith, length-append}
+use Rattle.std.proofs.Common.{◌≡◌, ℕ, ◌+◌, ◌-◌, ◌*◌, ◌≤◌, max, Bool, true, false, nat_le, ◌⊎◌, List, [], ◌∷◌, ◌++◌, length, Some, None, filter, Option, sym, refl, ap, ◌∙◌, subst, inl, inr, ⊎_elim, arith, length-append}
 use Rattle.std.specs.List.{AllByRecursion}
 use Rattle.std.proofs.lemmas.Bool.{both_ways, leb-true, le-leb, lt-leb, cases_lt}
 use Rattle.std.proofs.ByRecursion.{All-weaker}
 use Rattle.extents.specs.declared.extent.Extent.{Extent}
-use Rattle.containment.specs.declared.next.Next.{Next}
-use Rattle.containment.specs.declared.next.Next.TheVariants.{Here, Nowhere, ByStart, ByEnd}
-use Rattle.containment.specs.Nexts.{here}
+use Rattle.containment.specs.declared.verdict.Key.{Key}
+use Rattle.containment.specs.declared.verdict.Key.TheVariants.{Start, End}
+use Rattle.containment.specs.declared.verdict.Verdict.{Verdict}
+use Rattle.containment.specs.declared.verdict.Verdict.TheVariants.{Keep, Stop, GoOn}
 use Rattle.extents.specs.declared.access.Access.{Access}
 use Rattle.extents.specs.declared.access.Access.TheVariants.{FirstStart, FirstEnd, LastEnd}
 use Rattle.combination.specs.BothOf.{both_of, hulls, pair_calls, both_first_start_calls}
@@ -20,8 +21,8 @@ use Rattle.combination.specs.Hulls.{mem_hulls, both_rising}
 use Rattle.operators.specs.Listing.{list_calls, Cheap}
 use Rattle.combination.specs.OneOf.{one_of, one_first_start_calls}
 use Rattle.combination.specs.OneOfs.{one_rising}
-use Rattle.containment.specs.Filter.{Judged, kept, ahead, Ahead, walk_calls, ask_ahead, ahead_calls}
-use Rattle.containment.proofs.Filters.{reached, ahead_monotone, past_of, kept_of, is_here, walk_calls_over}
+use Rattle.containment.specs.Filter.{Judged, kept, ahead, Ahead, Sound, calls_on, walk_calls, ask_ahead, ahead_calls}
+use Rattle.containment.proofs.Filters.{reached, ahead_monotone}
 
 -- Lengths: different starts, each found among some numbers, are no more than those.
 abbrev Has : ℕ → List ℕ → Type 0
@@ -143,7 +144,7 @@ module _ (ls rs : List Extent) (hl : ExtentList ls) (hr : ExtentList rs) (cl cr 
       omega (arith, i, followed_length ls rs hl hr)
 
 -- The walks: each candidate is asked for once, and judged once.
-reached_all : (n : Next) (x : Extent) (xs : List Extent) → AllByRecursion (Before x) xs → ahead n x ≡ true → reached (ahead n) xs ≡ length xs
+reached_all : (n : Key) (x : Extent) (xs : List Extent) → AllByRecursion (Before x) xs → ahead n x ≡ true → reached (ahead n) xs ≡ length xs
 reached_all n x [] h t = refl
 reached_all n x (y ∷ ys) h t = let i = reached_all n x ys h.1 t in rw (ahead_monotone n x y h.0 t) (omega arith)
 
@@ -152,70 +153,77 @@ reached_most p [] = omega arith
 reached_most p (x ∷ xs) = let i = reached_most p xs in by_test (p x) (λ t. rw t (omega arith)) (λ t. rw t (omega arith))
 
 module _ (keep : Extent → Bool) (cl : Access → ℕ → ℕ) (judge : Extent → Judged) (sound : Ahead keep judge) (p : Cheap cl) (c : (x : Extent) → (judge x).cost ≤ 1) where
-  ask_one : (n : Next) → ask_ahead cl n ≤ 1
-  ask_one Here = omega arith
-  ask_one Nowhere = omega arith
-  ask_one (ByStart k) = p FirstStart k
-  ask_one (ByEnd k) = p FirstEnd k
+  ask_one : (n : Key) → ask_ahead cl n ≤ 1
+  ask_one (Start k) = p FirstStart k
+  ask_one (End k) = p FirstEnd k
 
-  walk_calls_few : (xs : List Extent) (n : Next) → ExtentList xs → walk_calls ahead (ask_ahead cl) judge xs n ≤ 2 * reached (ahead n) xs + 1
+  -- what a verdict leaves to be asked among the candidates after it
+  few_on : (xs : List Extent) → ((m : Key) → walk_calls ahead (ask_ahead cl) judge xs m ≤ 2 * reached (ahead m) xs + 1) → (v : Verdict) → calls_on (λ m. walk_calls ahead (ask_ahead cl) judge xs m) v ≤ 2 * length xs + 1
+  few_on xs few Keep = omega arith
+  few_on xs few Stop = omega arith
+  few_on xs few (GoOn m) = omega (arith, few m, reached_most (ahead m) xs)
+
+  walk_calls_few : (xs : List Extent) (n : Key) → ExtentList xs → walk_calls ahead (ask_ahead cl) judge xs n ≤ 2 * reached (ahead n) xs + 1
   unfolding walk_calls
   walk_calls_few [] n h = omega (arith, ask_one n)
   walk_calls_few (x ∷ xs) n h =
       by_test (ahead n x)
       (λ t.
-      let i = walk_calls_few xs (judge x).next h.2 in
-      rw t (omega (arith, i, ask_one n, c x, reached_all n x xs h.1 t, reached_most (ahead (judge x).next) xs)))
+      let o = few_on xs (λ m. walk_calls_few xs m h.2) (judge x).verdict in
+      rw t (omega (arith, o, ask_one n, c x, reached_all n x xs h.1 t)))
       (λ t. rw t (walk_calls_few xs n h.2))
 
+  -- what is found among those after x starts after x
+  later : (x : Extent) (xs : List Extent) (n : Key) (e : Extent) → AllByRecursion (Before x) xs → find_first (ahead n) (filter keep xs) ≡ Some e → nat_le (e.start + 1) x.start ≡ false
+  later x xs n e h g =
+      let b = all_mem (Before x) xs e h (mem_kept keep xs e (find_mem (ahead n) (filter keep xs) e g)).0 in
+      lt-leb (e.start + 1) x.start (omega arith)
+
+  found_on : (x : Extent) (xs : List Extent) (n : Key) (e : Extent) → AllByRecursion (Before x) xs → ahead n x ≡ true → find_first (ahead n) (filter keep (x ∷ xs)) ≡ Some e → ((m : Key) → find_first (ahead m) (filter keep xs) ≡ Some e → walk_calls ahead (ask_ahead cl) judge xs m + 2 * reached (ahead (Start (e.start + 1))) xs ≤ 2 * reached (ahead m) xs) → (v : Verdict) → Sound Before ahead keep x v → calls_on (λ m. walk_calls ahead (ask_ahead cl) judge xs m) v + 2 * reached (ahead (Start (e.start + 1))) (x ∷ xs) ≤ 2 * length xs
+  found_on x xs n e h t f found Keep s =
+      let g : Some x ≡ Some e = rw (s, t) at f in
+      let i : x ≡ e = cc in
+      let is = ap (λ v. v.start) i in
+      let o : nat_le (e.start + 1) x.start ≡ false = lt-leb (e.start + 1) x.start (omega arith) in
+      rw o (omega (arith, reached_most (ahead (Start (e.start + 1))) xs))
+  found_on x xs n e h t f found Stop s =
+      let m = mem_kept keep (x ∷ xs) e (find_mem (ahead n) (filter keep (x ∷ xs)) e f) in
+      absurd (s e (⊎_elim (λ i. inl i) (λ r. inr (all_mem (Before x) xs e h r)) m.0) m.1)
+  found_on x xs n e h t f found (GoOn m) s =
+      let k : keep x ≡ false = by_test (keep x) (λ v. absurd (both_ways (ahead m x) s.0 (s.1 x (inl refl) v))) (λ v. v) in
+      let g : find_first (ahead n) (filter keep xs) ≡ Some e = rw k at f in
+      let same : find_first (ahead m) (filter keep xs) ≡ find_first (ahead n) (filter keep xs) =
+      find_same (ahead m) (ahead n) (filter keep xs)
+      (λ y r.
+      let w = mem_kept keep xs y r in
+      let b = all_mem (Before x) xs y h w.0 in
+      s.1 y (inr b) w.1 ∙ sym (ahead_monotone n x y b t))
+      in
+      rw (later x xs n e h g) (omega (arith, found m (same ∙ g), reached_most (ahead m) xs))
+
   -- a walk that ends at e has passed only candidates up to e
-  walk_calls_found : (xs : List Extent) (n : Next) (e : Extent) → ExtentList xs → find_first (ahead n) (filter keep xs) ≡ Some e → walk_calls ahead (ask_ahead cl) judge xs n + 2 * reached (ahead (ByStart (e.start + 1))) xs ≤ 2 * reached (ahead n) xs
+  walk_calls_found : (xs : List Extent) (n : Key) (e : Extent) → ExtentList xs → find_first (ahead n) (filter keep xs) ≡ Some e → walk_calls ahead (ask_ahead cl) judge xs n + 2 * reached (ahead (Start (e.start + 1))) xs ≤ 2 * reached (ahead n) xs
   unfolding walk_calls
   walk_calls_found [] n e h f = absurd (none_some f)
   walk_calls_found (x ∷ xs) n e h f =
       by_test (ahead n x)
       (λ t.
-      let all = reached_all n x xs h.1 t in
-      by_test (here (judge x).next)
-      (λ u.
-      let k : keep x ≡ true = kept_of Before ahead keep x (judge x).next u (sound x) in
-      let g : Some x ≡ Some e = rw (k, t) at f in
-      let i : x ≡ e = cc in
-      let is = ap (λ v. v.start) i in
-      let z : walk_calls ahead (ask_ahead cl) judge xs (judge x).next ≡ 0 = ap (walk_calls ahead (ask_ahead cl) judge xs) (is_here (judge x).next u) ∙ walk_calls_over ahead (ask_ahead cl) judge xs Here (λ y. refl) in
-      let o : leb (e.start + 1) x.start ≡ false = lt-leb (e.start + 1) x.start (omega arith) in
-      rw (t, o) (omega (arith, z, ask_one n, c x, all, reached_most (ahead (ByStart (e.start + 1))) xs)))
-      (λ u.
-      let s = past_of Before ahead keep x (judge x).next u (sound x) in
-      let k : keep x ≡ false = by_test (keep x) (λ v. absurd (both_ways (ahead (judge x).next x) s.0 (s.1 x (inl refl) v))) (λ v. v) in
-      let g : find_first (ahead n) (filter keep xs) ≡ Some e = rw k at f in
-      let same : find_first (ahead (judge x).next) (filter keep xs) ≡ find_first (ahead n) (filter keep xs) =
-      find_same (ahead (judge x).next) (ahead n) (filter keep xs)
-      (λ y m.
-      let w = mem_kept keep xs y m in
-      let b = all_mem (Before x) xs y h.1 w.0 in
-      s.1 y (inr b) w.1 ∙ sym (ahead_monotone n x y b t))
-      in
-      let i = walk_calls_found xs (judge x).next e h.2 (same ∙ g) in
-      let b = all_mem (Before x) xs e h.1 (mem_kept keep xs e (find_mem (ahead n) (filter keep xs) e g)).0 in
-      let o : leb (e.start + 1) x.start ≡ false = lt-leb (e.start + 1) x.start (omega arith) in
-      rw (t, o) (omega (arith, i, ask_one n, c x, all, reached_most (ahead (judge x).next) xs))))
+      let o = found_on x xs n e h.1 t f (λ m g. walk_calls_found xs m e h.2 g) (judge x).verdict (sound x) in
+      rw t (omega (arith, o, ask_one n, c x, reached_all n x xs h.1 t)))
       (λ t.
       let g : find_first (ahead n) (filter keep xs) ≡ Some e =
       by_test (keep x) (λ k. let r : find_first (ahead n) (x ∷ filter keep xs) ≡ Some e = rw k at f in rw t at r) (λ k. rw k at f)
       in
-      let b = all_mem (Before x) xs e h.1 (mem_kept keep xs e (find_mem (ahead n) (filter keep xs) e g)).0 in
-      let o : leb (e.start + 1) x.start ≡ false = lt-leb (e.start + 1) x.start (omega arith) in
-      rw (t, o) (walk_calls_found xs n e h.2 g))
+      rw (t, later x xs n e h.1 g) (walk_calls_found xs n e h.2 g))
 
 -- from a key on
 abbrev pub onward : ℕ → List Extent → List Extent
-onward k ys = filter (ahead (ByStart k)) ys
+onward k ys = filter (ahead (Start k)) ys
 
-onward_first : (ys : List Extent) (k : ℕ) (e : Extent) (es : List Extent) → onward k ys ≡ e ∷ es → find_first (ahead (ByStart k)) ys ≡ Some e
+onward_first : (ys : List Extent) (k : ℕ) (e : Extent) (es : List Extent) → onward k ys ≡ e ∷ es → find_first (ahead (Start k)) ys ≡ Some e
 onward_first [] k e es q = let z : ◌≡◌ {A = ℕ} 0 1 = cc in absurd (omega arith)
 onward_first (y ∷ ys) k e es q =
-    by_test (leb k y.start)
+    by_test (nat_le k y.start)
     (λ t. let r : y ∷ onward k ys ≡ e ∷ es = rw t at q in let i : y ≡ e = cc in rw t (ap Some i))
     (λ t. rw t (onward_first ys k e es (rw t at q)))
 
@@ -226,21 +234,21 @@ onward_all (y ∷ ys) k h = rw (le-leb k y.start h.0) (ap (λ l. y ∷ l) (onwar
 onward_rest : (ys : List Extent) (k : ℕ) (e : Extent) (es : List Extent) → ExtentList ys → onward k ys ≡ e ∷ es → onward (e.start + 1) ys ≡ es
 onward_rest [] k e es h q = let z : ◌≡◌ {A = ℕ} 0 1 = cc in absurd (omega arith)
 onward_rest (y ∷ ys) k e es h q =
-    by_test (leb k y.start)
+    by_test (nat_le k y.start)
     (λ t.
     let l = leb-true k y.start t in
     let r : y ∷ onward k ys ≡ e ∷ es = rw t at q in
     let i : y ≡ e = cc in
     let is = ap (λ v. v.start) i in
     let j : onward k ys ≡ es = cc in
-    let o : leb (e.start + 1) y.start ≡ false = lt-leb (e.start + 1) y.start (omega arith) in
+    let o : nat_le (e.start + 1) y.start ≡ false = lt-leb (e.start + 1) y.start (omega arith) in
     let u = onward_all ys (e.start + 1) (All-weaker (Before y) (λ z. e.start + 1 ≤ z.start) (λ z b. omega arith) ys h.1) in
     let v = onward_all ys k (All-weaker (Before y) (λ z. k ≤ z.start) (λ z b. omega arith) ys h.1) in
     rw o (u ∙ sym v ∙ j))
     (λ t.
     let r : onward k ys ≡ e ∷ es = rw t at q in
-    let b = all_mem (Before y) ys e h.1 (find_mem (ahead (ByStart k)) ys e (onward_first ys k e es r)) in
-    let o : leb (e.start + 1) y.start ≡ false = lt-leb (e.start + 1) y.start (omega arith) in
+    let b = all_mem (Before y) ys e h.1 (find_mem (ahead (Start k)) ys e (onward_first ys k e es r)) in
+    let o : nat_le (e.start + 1) y.start ≡ false = lt-leb (e.start + 1) y.start (omega arith) in
     rw o (onward_rest ys k e es h.2 r))
 
 pub all_trivial : (xs : List Extent) → AllByRecursion (λ y. 0 ≤ y.start) xs
@@ -248,11 +256,11 @@ all_trivial [] = tt
 all_trivial (x ∷ xs) = (omega arith, all_trivial xs)
 
 module _ (keep : Extent → Bool) (ls : List Extent) (hl : ExtentList ls) (cl : Access → ℕ → ℕ) (judge : Extent → Judged) (sound : Ahead keep judge) (p : Cheap cl) (c : (x : Extent) → (judge x).cost ≤ 1) where
-  from_key : (es : List Extent) (k : ℕ) → onward k (kept keep ls) ≡ es → list_calls (ahead_calls ls cl judge) k es ≤ 2 * reached (ahead (ByStart k)) ls + 1
+  from_key : (es : List Extent) (k : ℕ) → onward k (kept keep ls) ≡ es → list_calls (ahead_calls ls cl judge) k es ≤ 2 * reached (ahead (Start k)) ls + 1
   unfolding kept ahead_calls
-  from_key [] k q = omega (arith, walk_calls_few keep cl judge sound p c ls (ByStart k) hl)
+  from_key [] k q = omega (arith, walk_calls_few keep cl judge sound p c ls (Start k) hl)
   from_key (e ∷ es) k q =
-      let f = walk_calls_found keep cl judge sound p c ls (ByStart k) e hl (onward_first (filter keep ls) k e es q) in
+      let f = walk_calls_found keep cl judge sound p c ls (Start k) e hl (onward_first (filter keep ls) k e es q) in
       let i = from_key es (e.start + 1) (onward_rest (filter keep ls) k e es (kept_rising keep ls hl) q) in
       omega (arith, f, i)
 
@@ -260,7 +268,7 @@ module _ (keep : Extent → Bool) (ls : List Extent) (hl : ExtentList ls) (cl : 
   pub kept_listing : list_calls (ahead_calls ls cl judge) 0 (kept keep ls) ≤ 2 * length ls + 1
   kept_listing =
       let i = from_key (kept keep ls) 0 (onward_all (kept keep ls) 0 (all_trivial (kept keep ls))) in
-      omega (arith, i, reached_most (ahead (ByStart 0)) ls)
+      omega (arith, i, reached_most (ahead (Start 0)) ls)
 
 -- what an access finds stands first in what is left
 pub onward_some : (xs : List Extent) (k : ℕ) (x : Extent) → ExtentList xs → first_start xs k ≡ Some x → onward k xs ≡ x ∷ onward (x.start + 1) xs
@@ -269,7 +277,7 @@ onward_some xs k x h e = go (onward k xs) refl
   where
     go : (es : List Extent) → onward k xs ≡ es → onward k xs ≡ x ∷ onward (x.start + 1) xs
     go [] q =
-        let m = kept_mem (ahead (ByStart k)) xs x (find_mem (ahead (ByStart k)) xs x e) (find_passes (ahead (ByStart k)) xs x e) in
+        let m = kept_mem (ahead (Start k)) xs x (find_mem (ahead (Start k)) xs x e) (find_passes (ahead (Start k)) xs x e) in
         absurd (subst (Mem x) q m)
     go (y ∷ ys) q =
         let i : Some y ≡ Some x = sym (onward_first xs k y ys q) ∙ e in

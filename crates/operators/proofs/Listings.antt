@@ -1,37 +1,93 @@
--- One more extent in an area. Assumes nothing.
-use Rattle.std.proofs.Common.{◌≡◌, ℕ, ◌+◌, ◌<◌, ◌≤◌, List, [], ◌∷◌, ◌++◌, length, take, drop, set, sym, ap, ◌∙◌, append_assoc, append-nil, add-one, arith, length-append, take-append-drop, length-take, drop-drop, take-suc-set, drop-set-lt}
+-- A listing so far, and one more extent in its area. Assumes nothing.
+use Rattle.std.proofs.Common.{◌≡◌, ℕ, ◌+◌, ◌-◌, ◌^◌, ◌<◌, ◌≤◌, min, List, [], ◌∷◌, ◌++◌, length, take, drop, set, Some, None, refl, sym, ap, ◌∙◌, append_assoc, append-nil, add-one, arith, length-append, take-append-drop, length-set, length-take, drop-drop, take-suc-set, drop-set-lt}
 use lib.Seq.{take-length, take-append_seam}
 use Rattle.extents.specs.declared.extent.Extent.{Extent}
+use Rattle.extents.specs.declared.extent.Found.{Found}
+use Rattle.extents.specs.declared.tally.Tally.{Tally}
+use Rattle.extents.specs.Counts.{capped}
+use Rattle.extents.specs.Extents.{ExtentList, first_start}
+use Rattle.extents.specs.Finds.{mem_proper}
+use Rattle.extents.specs.Words.{first_start_is}
+use Rattle.operators.specs.Listing.{GivesFirstStarts, IsListed, IsOverfull, list_calls}
+use Rattle.operators.proofs.Bounds.{onward, onward_all, all_trivial, onward_some, onward_none}
 
-pub put : (area : List Extent) (n : ℕ) (x : Extent) (es : List Extent) → n < length area → take (n + 1) (set area n x) ++ es ≡ take n area ++ (x ∷ es)
-put area n x es h =
-    ap (λ m. take m (set area n x) ++ es) (add-one n) ∙ ap (λ l. l ++ es) (take-suc-set area n x h) ∙ append_assoc (take n area) (x ∷ []) es
+-- n extents stand in the area and the key is at: of each list that is given, the rest is left from there on, and its calls are to come
+pub record Progress (post : ℕ → Found → Type 0) (was area : List Extent) (n at : ℕ) (tally : Tally) : Type 0 where
+  pub key : at < 2 ^ 32
+  pub within : n ≤ length area
+  pub same : length area ≡ length was
+  pub behind : drop n area ≡ drop n was
+  pub left : (xs : List Extent) (f : ℕ → ℕ) → ExtentList xs → GivesFirstStarts post xs f → take n area ++ onward at xs ≡ xs
+  pub counted : (xs : List Extent) (f : ℕ → ℕ) → ExtentList xs → GivesFirstStarts post xs f → capped (tally.calls + list_calls f at (onward at xs)) ≡ capped (list_calls f 0 xs)
 
--- what stands behind the written extents stays
-pub put_rest : (area was : List Extent) (n : ℕ) (x : Extent) → drop n area ≡ drop n was → drop (n + 1) (set area n x) ≡ drop (n + 1) was
-put_rest area was n x h =
-    drop-set-lt (n + 1) area n x (omega arith) ∙ sym (drop-drop 1 n area) ∙ ap (drop 1) h ∙ drop-drop 1 n was
+pub begun : (post : ℕ → Found → Type 0) (was : List Extent) (tally : Tally) → tally ≡ record { calls = 0 } → Progress post was was 0 0 tally
+begun post was tally t =
+    record {
+      key = omega arith;
+      within = omega arith;
+      same = refl;
+      behind = refl;
+      left = λ xs f h g. onward_all xs 0 (all_trivial xs);
+      counted = λ xs f h g. let e = ap (list_calls f 0) (onward_all xs 0 (all_trivial xs)) in omega (arith, e, ap (λ v. v.calls) t);
+    }
 
-pub front_length : (area : List Extent) (n : ℕ) → n ≤ length area → length (take n area) ≡ n
-front_length area n h = let l = length-take n area in omega arith
+module _ {post : ℕ → Found → Type 0} {was area : List Extent} {n at : ℕ} {tally total : Tally} (r : Found) (p : Progress post was area n at tally) (q : post at r) (t : total ≡ record { calls = capped (tally.calls + r.calls) }) where
+  front_length : length (take n area) ≡ n
+  front_length = let l = length-take n area in let w = p.within in omega arith
 
-pub none_left : (area : List Extent) (n : ℕ) (xs es : List Extent) → take n area ++ es ≡ xs → es ≡ [] → take n area ≡ xs
-none_left area n xs es h e = sym (append-nil (take n area)) ∙ ap (λ l. take n area ++ l) (sym e) ∙ h
+  module _ (x : Extent) (e : r.extent ≡ Some x) (xs : List Extent) (f : ℕ → ℕ) (h : ExtentList xs) (g : GivesFirstStarts post xs f) where
+    is_first : first_start xs at ≡ Some x
+    is_first = sym (g at r p.key q).0 ∙ e
 
-pub all_written : (area was : List Extent) (n : ℕ) (xs : List Extent) → take n area ≡ xs → drop n area ≡ drop n was → area ≡ xs ++ drop n was
-all_written area was n xs h d = sym (take-append-drop n area) ∙ ap (λ l. l ++ drop n area) h ∙ ap (λ l. xs ++ l) d
+    then_on : onward at xs ≡ x ∷ onward (x.start + 1) xs
+    then_on = onward_some xs at x h is_first
 
-pub more_left : (area : List Extent) (n : ℕ) (xs es fs : List Extent) (x : Extent) → n ≡ length area → take n area ++ es ≡ xs → es ≡ x ∷ fs → length area < length xs
-more_left area n xs es fs x z h e =
-    let l = front_length area n (omega arith) in
-    let a = length-append (take n area) es in
-    let b = ap length h in
-    let c = ap length e in
-    omega (arith, a, b, c, l)
+    next_key : (to : ℕ) → to ≡ min (x.start + 1) (2 ^ 32 - 1) → to ≡ x.start + 1
+    next_key to z = omega (arith, mem_proper xs x h (first_start_is xs at x h is_first).0)
 
-pub filled : (area : List Extent) (n m : ℕ) (xs es : List Extent) → n ≡ length area → m ≡ length area → take n area ++ es ≡ xs → area ≡ take m xs
-filled area n m xs es z w h =
-    sym (take-append_seam area es)
-    ∙ ap (λ l. take (length area) (l ++ es)) (sym (take-length area) ∙ ap (λ k. take k area) (sym z))
-    ∙ ap (take (length area)) h
-    ∙ ap (λ k. take k xs) (sym w)
+  -- one more extent was given, and there is room for it
+  pub one_more : (x : Extent) (to : ℕ) → r.extent ≡ Some x → n < length area → to ≡ min (x.start + 1) (2 ^ 32 - 1) → Progress post was (set area n x) (n + 1) to total
+  one_more x to e l z =
+      record {
+        key = omega arith;
+        within = omega (arith, length-set area n x);
+        same = omega (arith, length-set area n x, p.same);
+        behind = drop-set-lt (n + 1) area n x (omega arith) ∙ sym (drop-drop 1 n area) ∙ ap (drop 1) p.behind ∙ drop-drop 1 n was;
+        left = λ xs f h g.
+            let o = then_on x e xs f h g in
+            rw (next_key x e xs f h g to z)
+            (ap (λ m. take m (set area n x) ++ onward (x.start + 1) xs) (add-one n)
+            ∙ ap (λ l. l ++ onward (x.start + 1) xs) (take-suc-set area n x l)
+            ∙ append_assoc (take n area) (x ∷ []) (onward (x.start + 1) xs)
+            ∙ ap (λ l. take n area ++ l) (sym o)
+            ∙ p.left xs f h g);
+        counted = λ xs f h g.
+            let o = ap (list_calls f at) (then_on x e xs f h g) in
+            rw (next_key x e xs f h g to z) (omega (arith, o, ap (λ v. v.calls) t, p.counted xs f h g, (g at r p.key q).1));
+      }
+
+  -- no more was given
+  pub ended : r.extent ≡ None → (xs : List Extent) (f : ℕ → ℕ) → ExtentList xs → GivesFirstStarts post xs f → IsListed xs f was area n total.calls
+  ended e xs f h g =
+      let o = onward_none xs at (sym (g at r p.key q).0 ∙ e) in
+      let w : take n area ≡ xs = sym (append-nil (take n area)) ∙ ap (λ l. take n area ++ l) (sym o) ∙ p.left xs f h g in
+      let many : n ≡ length xs = sym front_length ∙ ap length w in
+      record {
+        many = many;
+        fits = omega (arith, many, p.within, p.same);
+        written = sym (take-append-drop n area) ∙ ap (λ l. l ++ drop n area) w ∙ ap (λ l. xs ++ l) p.behind;
+        counted = omega (arith, ap (list_calls f at) o, ap (λ v. v.calls) t, p.counted xs f h g, (g at r p.key q).1);
+      }
+
+  -- one more was given, and there is no room for it
+  pub overfull : (x : Extent) → r.extent ≡ Some x → n ≡ length area → (xs : List Extent) (f : ℕ → ℕ) → ExtentList xs → GivesFirstStarts post xs f → IsOverfull xs was area
+  overfull x e z xs f h g =
+      let o = then_on x e xs f h g in
+      record {
+        longer = omega (arith, p.same, front_length, length-append (take n area) (onward at xs), ap length (p.left xs f h g), ap length o);
+        written =
+            sym (take-append_seam area (onward at xs))
+            ∙ ap (λ l. take (length area) (l ++ onward at xs)) (sym (take-length area) ∙ ap (λ m. take m area) (sym z))
+            ∙ ap (take (length area)) (p.left xs f h g)
+            ∙ ap (λ m. take m xs) p.same;
+      }

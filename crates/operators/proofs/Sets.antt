@@ -8,7 +8,7 @@ use Rattle.extents.proofs.Answered.{answered}
 use Rattle.extents.specs.Accesses.{Answer, found}
 use Rattle.extents.specs.Extents.{Mem, ExtentList, inside_some}
 use Rattle.extents.specs.Finds.{mem_kept, kept_mem, inside_from, inside_by}
-use Rattle.extents.specs.Regions.{Inside, SomeIn, Least, operator_set, Members, Iff, Lists}
+use Rattle.extents.specs.Regions.{Inside, SomeIn, Least, Members, Iff, Lists}
 use Rattle.containment.specs.Filter.{kept}
 use Rattle.containment.specs.Soundness.{kept_rising, holds_from, holds_by, not_by, not_of}
 use Rattle.containment.specs.Verdicts.{holds_some, inside_none, holds_none}
@@ -18,7 +18,7 @@ use Rattle.combination.specs.Followeds.{Joined, followed_rising, followed_least}
 use Rattle.combination.specs.Hulls.{Covers, both_rising, both_least}
 use Rattle.combination.specs.OneOf.{one_of}
 use Rattle.combination.specs.OneOfs.{OneIn, one_rising, one_least}
-use Rattle.operators.specs.Operators.{operator_list, operator_calls}
+use Rattle.operators.specs.Operators.{operator_list, set_over}
 
 -- members of what is kept, by what the test says
 kept_iff : (keep : Extent → Bool) (P : Extent → Type 0) (ls : List Extent) → ((e : Extent) → Iff (keep e ≡ true) (P e)) → (e : Extent) → Iff (Mem e (kept keep ls)) (Mem e ls × P e)
@@ -58,7 +58,7 @@ module _ (ls rs : List Extent) where
     λ v. (v.0, v.2.0, v.1, v.2.1, v.2.2.0, v.2.2.1, v.2.2.2),
   )
 
-  pub operator_listed : (op : Operator) → ExtentList ls → ExtentList rs → Lists (operator_set op (Members ls) (Members rs)) (operator_list op ls rs)
+  pub operator_listed : (op : Operator) → ExtentList ls → ExtentList rs → Lists (set_over op ls rs) (operator_list op ls rs)
   operator_listed ContainedIn hl hr = (kept_rising _ ls hl, kept_iff (inside_some rs) _ ls (in_some rs))
   operator_listed NotContainedIn hl hr = (kept_rising _ ls hl, kept_iff (inside_none rs) _ ls (λ e. negated (inside_some rs e) _ (in_some rs e)))
   operator_listed Containing hl hr = (kept_rising _ ls hl, kept_iff (holds_some rs) _ ls (has_some rs))
@@ -68,10 +68,7 @@ module _ (ls rs : List Extent) where
   operator_listed FollowedBy hl hr = (followed_rising ls rs hl hr, least_of (Joined ls rs) _ joined (followed ls rs) (followed_least ls rs hl hr))
 
   -- what an access finds in the operator's list is its answer over the operator's set
-  pub operator_answered : (op met : Operator) → op ≡ met → (a : Access) (k : ℕ) (o : Option Extent) → ExtentList ls → ExtentList rs → o ≡ found a (operator_list met ls rs) k → Answer a k (operator_set op (Members ls) (Members rs)) o
+  pub operator_answered : (op met : Operator) → op ≡ met → (a : Access) (k : ℕ) (o : Option Extent) → ExtentList ls → ExtentList rs → o ≡ found a (operator_list met ls rs) k → Answer a k (set_over op ls rs) o
   operator_answered op met is a k o hl hr e =
       let list_is : operator_list met ls rs ≡ operator_list op ls rs = ap (λ v. operator_list v ls rs) (sym is) in
-      subst (Answer a k (operator_set op (Members ls) (Members rs))) (sym (e ∙ ap (λ xs. found a xs k) list_is)) (answered a k _ (operator_list op ls rs) (operator_listed op hl hr))
-
-  pub operator_counted : (op met : Operator) → op ≡ met → (cl cr : Access → ℕ → ℕ) (a : Access) (k n : ℕ) → n ≡ operator_calls met ls cl rs cr a k → n ≡ operator_calls op ls cl rs cr a k
-  operator_counted op met is cl cr a k n e = e ∙ ap (λ v. operator_calls v ls cl rs cr a k) (sym is)
+      subst (Answer a k (set_over op ls rs)) (sym (e ∙ ap (λ xs. found a xs k) list_is)) (answered a k _ (operator_list op ls rs) (operator_listed op hl hr))

@@ -1,8 +1,9 @@
 // A source's extents, written one after the other into a caller's area.
-ghost use Rattle.std.specs.Result.{MatchResult};
+ghost use Rattle.std.specs.Prelude.{ℕ, List};
+ghost use Rattle.extents.specs.declared.extent.Extent.{Extent};
+ghost use Rattle.extents.specs.Extents.{ExtentList};
 ghost use Rattle.extents.specs.declared.access.Access.TheVariants.{FirstStart};
-ghost use Rattle.operators.specs.Listing.{IsListed, IsOverfull};
-ghost use Rattle.operators.specs.Operators.{operator_list, first_start_calls};
+ghost use Rattle.operators.specs.Listing.{GivesFirstStarts, ListsOperator, ListsTo};
 
 use combination::both_of::BothOf;
 use combination::followed_by::FollowedBy;
@@ -11,41 +12,52 @@ use containment::contained_in::ContainedIn;
 use containment::containing::Containing;
 use containment::not_contained_in::NotContainedIn;
 use containment::not_containing::NotContaining;
-use extents::extent::Extent;
+use extents::extent::{Extent, Found};
 use extents::operator::Operator;
 use extents::source::Source;
+use extents::tally::Tally;
 
 // How many extents were listed, and how many calls that took.
-#[derive(Clone, Copy)]
+#[derive(Clone, Copy, Debug, PartialEq, Eq)]
 pub struct Listing {
     pub n: usize,
     pub calls: u64,
 }
 
 // A list that is longer than its area.
-#[derive(Clone, Copy)]
+#[derive(Clone, Copy, Debug, PartialEq, Eq)]
 pub struct Overfull;
 
-// Writes the extents of a source to the front of an area, as far as they fit.
-pub fn list_into<S: Source>(source: &S, out: &mut [Extent]) -> Result<Listing, Overfull>
-    ensures { MatchResult result (λ l. IsListed (S.Source.extents source.now) (S.Source.calls source.now FirstStart) out.old out.new l.n l.calls) (λ _. IsOverfull (S.Source.extents source.now) out.old out.new) }
+// Asks for the extent at 0, and then at one past the start of each one given, and writes what is given to the front of an
+// area, until none is or the next one does not fit.
+// What it does is promised where what is given is the first starts of some extent list.
+pub fn list_by<F: Fn(u32) -> Found>(next: F, out: &mut [Extent]) -> Result<Listing, Overfull>
+    requires { F.IsAlwaysCallable next }
+    ensures { (xs : List Extent) (f : ℕ → ℕ) → ExtentList xs → GivesFirstStarts (F.post next) xs f → ListsTo xs f out.old out.new result }
 {
+    let mut tally = Tally::new();
     let mut n = 0;
-    let mut calls = 0u64;
     let mut at = 0;
-    loop {
-        let found = source.first_start(at);
-        calls = calls.saturating_add(found.calls);
-        let Some(x) = found.extent else {
-            return Ok(Listing { n, calls });
-        };
+    // Stays: the end of the list is asked for, at one past each start; n is where the lent area is written.
+    while let Some(x) = tally.take(next(at)) {
         if n == out.len() {
             return Err(Overfull);
         }
         out[n] = x;
         n += 1;
-        at = x.start + 1;
+        at = x.start.saturating_add(1);
     }
+    Ok(Listing {
+        n,
+        calls: tally.calls,
+    })
+}
+
+// Writes the extents of a source to the front of an area, as far as they fit.
+pub fn list_into<S: Source>(source: &S, out: &mut [Extent]) -> Result<Listing, Overfull>
+    ensures { ListsTo (S.extents source.now) (S.calls source.now FirstStart) out.old out.new result }
+{
+    list_by(|k| source.first_start(k), out)
 }
 
 // Writes the extents of an operator over two sources to the front of an area, as far as they fit.
@@ -55,8 +67,9 @@ pub fn list_operator<A: Source, B: Source>(
     b: &B,
     out: &mut [Extent],
 ) -> Result<Listing, Overfull>
-    ensures { MatchResult result (λ l. IsListed (operator_list operator (A.Source.extents a.now) (B.Source.extents b.now)) (first_start_calls operator (A.Source.extents a.now) (A.Source.calls a.now) (B.Source.extents b.now) (B.Source.calls b.now)) out.old out.new l.n l.calls) (λ _. IsOverfull (operator_list operator (A.Source.extents a.now) (B.Source.extents b.now)) out.old out.new) }
+    ensures { ListsOperator operator (A.extents a.now) (A.calls a.now) (B.extents b.now) (B.calls b.now) out.old out.new result }
 {
+    // Stays: each arm is a source of another type, so one match for this and `evaluate` takes a trait and two structs more.
     match operator {
         Operator::ContainedIn => list_into(&ContainedIn { a, b }, out),
         Operator::NotContainedIn => list_into(&NotContainedIn { a, b }, out),
