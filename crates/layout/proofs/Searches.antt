@@ -1,168 +1,134 @@
--- How far a search by halving has come, in bytes that obey the layout. Assumes nothing.
-use Rattle.std.proofs.Common.{◌≡◌, ℕ, zero, suc, ◌+◌, ◌-◌, ◌<◌, ◌≤◌, true, false, List, [], ◌∷◌, length, get_or, Some, None, sym, ap, ◌∙◌, subst, ⊎_elim, arith}
+-- Searches in bytes that obey the layout: for a name's row, and for a slot of a row. Assumes nothing.
+use Rattle.std.proofs.Common.{◌≡◌, ℕ, ◌+◌, ◌<◌, ◌≤◌, true, false, List, [], length, get_or, ltb, Ok, Err, Some, None, Option, Bor, refl, sym, ap, ◌∙◌, subst, ⊎_elim, arith}
 use Rattle.std.specs.Str.{bytes_eq}
+use Rattle.std.specs.List.{HoldsAt}
+use Rattle.std.specs.List.Sorted.{IsBinarySearchResult, IsNonDecreasingBy, IsPartitionedBy, IsPartitionPoint}
+use Rattle.std.specs.Option.{MatchOption, IsSomeAnd}
+use Rattle.std.specs.Ordering.{ordering_index}
+use Rattle.std.proofs.lemmas.Cmp.{lists_total, nat_cmp_total}
+use Rattle.std.proofs.lemmas.List.{ext_get_or, length-map, get_or-map}
+use Rattle.std.proofs.lemmas.List.Recursion.{found_at, found_nowhere}
+use Rattle.std.proofs.lemmas.List.Sorted.{searchable_from_sorted, IsPartitionedBy-ltb, IsNonDecreasingBy-from_default}
 use Rattle.std.proofs.lemmas.Slice.Eq.{bytes_eq-Decides}
-use Rattle.std.proofs.lemmas.Bool.{cases_lt, cases_Bool, cond-true, cond-false}
-use Rattle.postings.specs.Names.{before}
-use Rattle.postings.specs.Rising.{first_from}
-use Rattle.postings.proofs.Names.{before_trans, before_irrefl}
-use Rattle.postings.proofs.Firsts.{first_at, first_none}
-use Rattle.layout.specs.Fields.{names, name, earlier, count, slot}
+use Rattle.std.proofs.lemmas.Bool.{cases_lt, false_from_ne_true, ltb-true, ltb-false}
+use Rattle.postings.specs.Names.{before, byte_order}
+use Rattle.postings.specs.Rising.{Rising, first_from}
+use Rattle.postings.proofs.Firsts.{first_at, first_none, rising_weak}
+use Rattle.postings.proofs.Names.{before_less, before_greater, before_trans, before_irrefl, byte_order_equal}
+use Rattle.layout.specs.Fields.{le32, names, name, count}
 use Rattle.layout.specs.Layout.{Obeys}
 use Rattle.layout.specs.Meaning.{Row, row_slots, rows, posted}
-use Rattle.layout.specs.Posted.{length_rows, get_or_rows, length_row, get_or_row, meaning_cases, slot_rises}
+use Rattle.layout.specs.Parts.{row_chunks, slot_chunks, run, slots_in}
+use Rattle.layout.specs.Posted.{length_rows, get_or_rows, length_row, get_or_row, row_within}
+use Rattle.layout.specs.Tests.{far_from_near}
+use Rattle.layout.proofs.Chunks.{row_bytes, called, name_read, length_rows_cut, row_read, length_run, run_read}
 
 -- ---- names
 
-names_step : (bs : List ℕ) → Obeys bs → (i n : ℕ) → i + 1 + n < names bs → before (name bs i) (name bs (i + 1 + n)) ≡ true
-names_step bs o i zero h =
-    let e : i + 1 + 0 ≡ i + 1 = omega arith in
-    subst (λ j. before (name bs i) (name bs j) ≡ true) (sym e) (o.ordered i (omega arith))
-names_step bs o i (suc n) h =
-    let e : i + 1 + suc n ≡ (i + 1 + n) + 1 = omega arith in
-    let m : (i + 1 + n) + 1 < names bs = omega arith in
-    subst (λ j. before (name bs i) (name bs j) ≡ true) (sym e) (before_trans _ _ _ (names_step bs o i n (omega arith)) (o.ordered (i + 1 + n) m))
-
 -- each name stands before every later one
 pub names_rise : (bs : List ℕ) → Obeys bs → (i j : ℕ) → i < j → j < names bs → before (name bs i) (name bs j) ≡ true
-names_rise bs o i j h l =
-    let e : i + 1 + (j - (i + 1)) ≡ j = omega arith in
-    subst (λ j. before (name bs i) (name bs j) ≡ true) e (names_step bs o i (j - (i + 1)) (omega arith))
+names_rise bs o = far_from_near (λ i j. before (name bs i) (name bs j) ≡ true) (names bs) (λ i j k. before_trans (name bs i) (name bs j) (name bs k)) o.ordered
 
--- the name n would stand from low to high
-pub record Between (bs n : List ℕ) (low high : ℕ) : Type 0 where
-  pub ordered : low ≤ high
-  pub inside : high ≤ names bs
-  pub under : (i : ℕ) → i < low → before (name bs i) n ≡ true
-  pub above : (i : ℕ) → high ≤ i → i < names bs → before n (name bs i) ≡ true
-
-pub between_right : (bs n : List ℕ) (low high mid : ℕ) → Obeys bs → Between bs n low high → low ≤ mid → mid < high → before (name bs mid) n ≡ true → Between bs n (mid + 1) high
-between_right bs n low high mid o w a b h =
-    let l : mid < names bs = omega (arith, w.inside) in
-    record {
-      ordered = omega arith;
-      inside = w.inside;
-      under = λ i p.
-          ⊎_elim
-          (λ (q : i < mid). before_trans (name bs i) (name bs mid) n (names_rise bs o i mid q l) h)
-          (λ (q : mid ≤ i). let e : mid ≡ i = omega arith in subst (λ i. before (name bs i) n ≡ true) e h)
-          (cases_lt i mid);
-      above = w.above;
-    }
-
-pub between_left : (bs n : List ℕ) (low high mid : ℕ) → Obeys bs → Between bs n low high → low ≤ mid → mid < high → before n (name bs mid) ≡ true → Between bs n low mid
-between_left bs n low high mid o w a b h =
-    record {
-      ordered = a;
-      inside = omega (arith, w.inside);
-      under = w.under;
-      above = λ i p q.
-          ⊎_elim
-          (λ (r : mid < i). before_trans n (name bs mid) (name bs i) h (names_rise bs o mid i r q))
-          (λ (r : i ≤ mid). let e : mid ≡ i = omega arith in subst (λ i. before n (name bs i) ≡ true) e h)
-          (cases_lt mid i);
-    }
-
--- no row of that name is left
-pub between_none : (bs n : List ℕ) (low high : ℕ) → Between bs n low high → high ≤ low → posted (rows bs) n ≡ []
-between_none bs n low high w h =
-    ⊎_elim
-    (λ (e : posted (rows bs) n ≡ []). e)
-    (λ p.
-    ⊎_elim
-    (λ (q : p.0 < low). absurd (before_irrefl n (subst (λ m. before m n ≡ true) p.2 (w.under p.0 q))))
-    (λ (q : low ≤ p.0). absurd (before_irrefl n (subst (λ m. before n m ≡ true) p.2 (w.above p.0 (omega arith) p.1))))
-    (cases_lt p.0 low))
-    (meaning_cases bs n)
-
+-- names of which one stands before the other differ
 apart : (a b : List ℕ) → before a b ≡ true → bytes_eq a b ≡ false
-apart a b h =
-    ⊎_elim
-    (λ (e : bytes_eq a b ≡ true). absurd (before_irrefl b (subst (λ x. before x b ≡ true) ((bytes_eq-Decides a b).0 e) h)))
-    (λ (e : bytes_eq a b ≡ false). e)
-    (cases_Bool (bytes_eq a b))
+apart a b h = false_from_ne_true (bytes_eq a b) (λ e. before_irrefl b (subst (λ x. before x b ≡ true) ((bytes_eq-Decides a b).0 e) h))
 
--- the first row of a name says its slots
-pub posted_found : (rs : List Row) (n : List ℕ) (i : ℕ) (d : Row) → i < length rs → (get_or rs i d).0 ≡ n → ((k : ℕ) → k < i → bytes_eq (get_or rs k d).0 n ≡ false) → posted rs n ≡ (get_or rs i d).1
-posted_found [] n i d l e h = absurd (let z : i < 0 = l in omega arith)
-posted_found (r ∷ rs) n zero d l e h = cond-true (bytes_eq r.0 n) _ _ ((bytes_eq-Decides r.0 n).1 e)
-posted_found (r ∷ rs) n (suc i) d l e h = cond-false (bytes_eq r.0 n) _ _ (h 0 (omega arith)) ∙ posted_found rs n i d (omega (arith, l)) e (λ k m. h (suc k) (omega arith))
+pub apart_after : (a b : List ℕ) → before b a ≡ true → bytes_eq a b ≡ false
+apart_after a b h = false_from_ne_true (bytes_eq a b) (λ e. before_irrefl a (subst (λ x. before x a ≡ true) (sym ((bytes_eq-Decides a b).0 e)) h))
 
--- the row of that name
-pub named_row : (bs n : List ℕ) → Obeys bs → (i : ℕ) → i < names bs → name bs i ≡ n → posted (rows bs) n ≡ row_slots bs i
-named_row bs n o i l e =
-    let d : Row = ([], []) in
-    let f = get_or_rows bs i d l in
-    posted_found (rows bs) n i d (omega (arith, length_rows bs)) (ap (λ (r : Row). r.0) f ∙ e)
+-- ---- what a binary search of the rows for the name n finds
+
+module _ (bs n : List ℕ) (o : Obeys bs) (xs : List (List ℕ)) (e : xs ≡ row_chunks bs) where
+  none : Row
+  none = ([], [])
+
+  cut : length xs ≡ names bs
+  cut = length_rows_cut bs xs e
+
+  name_at : (k : ℕ) (d : List ℕ) → k < names bs → called (get_or xs k d) ≡ name bs k
+  name_at k d l = name_read bs k (get_or xs k d) (row_read bs xs e k d (omega (arith, cut)))
+
+  name_in_rows : (k : ℕ) → k < names bs → (get_or (rows bs) k none).0 ≡ name bs k
+  name_in_rows k l = ap (λ (r : Row). r.0) (get_or_rows bs k none l)
+
+  comparisons_rise : IsNonDecreasingBy (λ r. ordering_index (byte_order (called r) n)) xs
+  unfolding byte_order before
+  comparisons_rise =
+      searchable_from_sorted (lists_total nat_cmp_total) called xs n
+      (λ k d low high.
+      let l : k + 1 < names bs = omega (arith, cut) in
+      false_from_ne_true _
+      (λ h.
+      let back = subst (λ x. before x (name bs k) ≡ true) (name_at (k + 1) d l) (subst (λ x. before (called (get_or xs (k + 1) d)) x ≡ true) (name_at k d (omega arith)) h) in
+      before_irrefl (name bs k) (before_trans (name bs k) (name bs (k + 1)) (name bs k) (o.ordered k l) back)))
+
+  -- the row of that name, which says its slots
+  pub row_found : (i : ℕ) → i < length xs → IsBinarySearchResult (λ r. byte_order (called r) n) xs (Ok i) → posted (rows bs) n ≡ row_slots bs i
+  row_found i l equal =
+      let m : i < names bs = omega (arith, cut) in
+      let named : name bs i ≡ n = sym (name_at i [] m) ∙ byte_order_equal _ n (equal []) in
+      found_at (λ rs. posted rs n) (λ (r : Row). bytes_eq r.0 n) (λ (r : Row). r.1) [] refl (λ _ _. refl) (rows bs) i none (omega (arith, length_rows bs))
+      (λ k h. ap (λ x. bytes_eq x n) (name_in_rows k (omega arith)) ∙ apart (name bs k) n (subst (λ x. before (name bs k) x ≡ true) named (names_rise bs o k i h m)))
+      ((bytes_eq-Decides _ n).1 (name_in_rows i m ∙ named))
+      ∙ ap (λ (r : Row). r.1) (get_or_rows bs i none m)
+
+  -- no row of that name
+  pub no_row : (i : ℕ) → IsBinarySearchResult (λ r. byte_order (called r) n) xs (Err i) → posted (rows bs) n ≡ []
+  no_row i parted =
+      let parts = parted comparisons_rise in
+      found_nowhere (λ rs. posted rs n) (λ (r : Row). bytes_eq r.0 n) (λ (r : Row). r.1) [] refl (λ _ _. refl) (rows bs) none
+      (λ k l.
+      let m : k < names bs = omega (arith, length_rows bs) in
+      let at = name_at k [] m in
+      ap (λ x. bytes_eq x n) (name_in_rows k m)
+      ∙ ⊎_elim
+      (λ (h : k < i). apart (name bs k) n (subst (λ x. before x n ≡ true) at (before_less _ n (parts.0 k [] (omega arith) h))))
+      (λ (h : i ≤ k). apart_after (name bs k) n (subst (λ x. before n x ≡ true) at (before_greater _ n (parts.1 k [] h (omega (arith, cut))))))
+      (cases_lt k i))
+
+-- ---- the slots of a row
+
+slot_in : (xs : List (List ℕ)) (k : ℕ) → k < length xs → get_or (slots_in xs) k 0 ≡ le32 (get_or xs k []) 0
+slot_in xs k l = get_or-map (λ s. le32 s 0) xs k [] 0 l
+
+length_slots_in : (xs : List (List ℕ)) → length (slots_in xs) ≡ length xs
+length_slots_in xs = length-map xs (λ s. le32 s 0)
+
+-- the slots of the row i, read where they lie
+pub run_slots : (bs : List ℕ) → Obeys bs → (slots : List (List ℕ)) → slots ≡ slot_chunks bs → (i : ℕ) → i < names bs → (row : List ℕ) → row ≡ row_bytes bs i → slots_in (run slots row) ≡ row_slots bs i
+run_slots bs o slots e i l row f =
+    let w = row_within bs o i l in
+    let xs = run slots row in
+    let n = length_run bs slots e i row f w in
+    ext_get_or 0 (slots_in xs) (row_slots bs i) (length_slots_in xs ∙ n ∙ sym (length_row bs i))
     (λ k m.
-    let g = ap (λ (r : Row). r.0) (get_or_rows bs k d (omega arith)) in
-    ap (λ x. bytes_eq x n) g ∙ apart (name bs k) n (subst (λ x. before (name bs k) x ≡ true) e (names_rise bs o k i m l)))
-    ∙ ap (λ (r : Row). r.1) f
+    let p : k < count bs i = omega (arith, length_slots_in xs, n) in
+    slot_in xs k (omega arith) ∙ run_read bs slots e i row f w k [] p ∙ sym (get_or_row bs i k p))
 
--- ---- slots
+-- ---- what is read where the slots below k end
 
--- of the slots of a row from `from` to `end`, those before low are below k, and those from high on are not
-pub record Halved (bs : List ℕ) (from end k low high : ℕ) : Type 0 where
-  pub first : from ≤ low
-  pub ordered : low ≤ high
-  pub inside : high ≤ end
-  pub under : (j : ℕ) → from ≤ j → j < low → slot bs j < k
-  pub above : (j : ℕ) → high ≤ j → j < end → k ≤ slot bs j
+-- slots that rise are parted by each k
+pub slots_parted : (xs : List (List ℕ)) (k : ℕ) → Rising (slots_in xs) → IsPartitionedBy (λ s. ltb (le32 s 0) k) xs
+slots_parted xs k up =
+    IsPartitionedBy-ltb (λ s. le32 s 0) xs k
+    (IsNonDecreasingBy-from_default (λ s. le32 s 0) xs []
+    (λ i j h l. omega (arith, rising_weak (slots_in xs) up i j h (omega (arith, length_slots_in xs)), slot_in xs i (omega arith), slot_in xs j l)))
 
-slots_rise : (bs : List ℕ) → Obeys bs → (i a b : ℕ) → i < names bs → earlier bs i ≤ a → a < b → b < earlier bs i + count bs i → slot bs a < slot bs b
-slots_rise bs o i a b l h m n =
-    let from = earlier bs i in
-    let e : from + (a - from) ≡ a = omega arith in
-    let f : from + (b - from) ≡ b = omega arith in
-    omega (arith, slot_rises bs o i (a - from) (b - from) l (omega arith) (omega arith), ap (slot bs) e, ap (slot bs) f)
-
-pub halved_right : (bs : List ℕ) → Obeys bs → (i from end k low high mid : ℕ) → i < names bs → from ≡ earlier bs i → end ≡ earlier bs i + count bs i → Halved bs from end k low high → low ≤ mid → mid < high → slot bs mid < k → Halved bs from end k (mid + 1) high
-halved_right bs o i from end k low high mid l e f w a b h =
-    let u = w.inside in
-    record {
-      first = omega (arith, w.first);
-      ordered = omega arith;
-      inside = u;
-      under = λ j p q.
-          ⊎_elim
-          (λ (r : j < mid). omega (arith, slots_rise bs o i j mid l (omega arith) r (omega arith)))
-          (λ (r : mid ≤ j). let g : mid ≡ j = omega arith in omega (arith, ap (slot bs) g))
-          (cases_lt j mid);
-      above = w.above;
-    }
-
-pub halved_left : (bs : List ℕ) → Obeys bs → (i from end k low high mid : ℕ) → i < names bs → from ≡ earlier bs i → end ≡ earlier bs i + count bs i → Halved bs from end k low high → low ≤ mid → mid < high → k ≤ slot bs mid → Halved bs from end k low mid
-halved_left bs o i from end k low high mid l e f w a b h =
-    let u = w.first in
-    record {
-      first = u;
-      ordered = a;
-      inside = omega (arith, w.inside);
-      under = w.under;
-      above = λ j p q.
-          ⊎_elim
-          (λ (r : mid < j). omega (arith, slots_rise bs o i mid j l (omega arith) r (omega arith)))
-          (λ (r : j ≤ mid). let g : mid ≡ j = omega arith in omega (arith, ap (slot bs) g))
-          (cases_lt mid j);
-    }
-
--- where the search ends
-pub halved_found : (bs : List ℕ) (i from end k low high : ℕ) → from ≡ earlier bs i → end ≡ earlier bs i + count bs i → Halved bs from end k low high → high ≤ low → low < end → first_from k (row_slots bs i) ≡ Some (slot bs low)
-halved_found bs i from end k low high e f w h l =
-    let xs = row_slots bs i in
-    let p = low - from in
-    let u = w.first in
-    let n = length_row bs i in
-    let m : p < count bs i = omega arith in
-    let g : earlier bs i + p ≡ low = omega arith in
-    let z : get_or xs p 0 ≡ slot bs low = get_or_row bs i p m ∙ ap (slot bs) g in
-    first_at xs k p (omega arith)
-    (λ j q. let r : j < count bs i = omega arith in omega (arith, get_or_row bs i j r, w.under (earlier bs i + j) (omega arith) (omega arith)))
-    (omega (arith, w.above low h l))
-    ∙ ap Some z
-
-pub halved_none : (bs : List ℕ) (i from end k low high : ℕ) → from ≡ earlier bs i → end ≡ earlier bs i + count bs i → Halved bs from end k low high → end ≤ low → first_from k (row_slots bs i) ≡ None
-halved_none bs i from end k low high e f w h =
-    let n = length_row bs i in
-    first_none (row_slots bs i) k
-    (λ j q. let r : j < count bs i = omega arith in omega (arith, get_or_row bs i j r, w.under (earlier bs i + j) (omega arith) (omega arith)))
+-- `told` is what a call that reads the number of a slot says of it
+pub first_read :
+    (xs : List (List ℕ)) (k i : ℕ) → IsPartitionPoint (λ s. ltb (le32 s 0) k ≡ true) (λ s. ltb (le32 s 0) k ≡ false) xs i →
+    (told : Bor (List ℕ) → ℕ → Type 0) → ((x : Bor (List ℕ)) (n : ℕ) → told x n → n ≡ le32 x.now 0) →
+    (o : Option (Bor (List ℕ))) (r : Option ℕ) → MatchOption o (length xs ≤ i) (λ x. (i < length xs) × HoldsAt (λ y. x.now ≡ y) xs i) →
+    MatchOption o (r ≡ None) (λ x. IsSomeAnd r (told x)) → r ≡ first_from k (slots_in xs)
+first_read xs k i parts told tells None r past gone =
+    gone
+    ∙ sym (first_none (slots_in xs) k
+    (λ j l.
+    let m : j < length xs = omega (arith, length_slots_in xs) in
+    omega (arith, slot_in xs j m, ltb-true _ _ (parts.0 j [] (omega arith) (omega arith)))))
+first_read xs k i parts told tells (Some x) None read gone = absurd gone
+first_read xs k i parts told tells (Some x) (Some n) read some =
+    ap Some (tells x n some ∙ ap (λ s. le32 s 0) (read.1 []) ∙ sym (slot_in xs i read.0))
+    ∙ sym (first_at (slots_in xs) k i (omega (arith, read.0, length_slots_in xs))
+    (λ j l. omega (arith, slot_in xs j (omega (arith, read.0)), ltb-true _ _ (parts.0 j [] (omega arith) l)))
+    (omega (arith, slot_in xs i read.0, ltb-false _ _ (parts.1 i [] (omega arith) read.0))))

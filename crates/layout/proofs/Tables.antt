@@ -6,12 +6,12 @@ use Rattle.std.proofs.ByRecursion.{All-from_get_or, All-weaker}
 use Rattle.std.proofs.lemmas.Slice.Eq.{bytes_eq-Decides}
 use Rattle.std.proofs.lemmas.Bool.{cases_Bool, cond-true, cond-false}
 use Rattle.postings.specs.Names.{before, byte_order}
-use Rattle.postings.proofs.Names.{before_less, before_greater, before_trans, before_irrefl, byte_order_equal}
+use Rattle.postings.proofs.Names.{before_less, before_greater, before_trans, byte_order_equal}
 use Rattle.layout.specs.Fields.{names, name}
 use Rattle.layout.specs.Layout.{Obeys}
 use Rattle.layout.specs.Meaning.{Row, rows, posted}
 use Rattle.layout.specs.Posted.{length_rows, get_or_rows, length_row}
-use Rattle.layout.proofs.Searches.{names_rise}
+use Rattle.layout.proofs.Searches.{names_rise, apart_after}
 
 abbrev pub none : Row
 none = ([], [])
@@ -45,19 +45,9 @@ rows_ranked bs o =
 
 -- ---- what ranked rows say
 
-same_self : (n : List ℕ) → bytes_eq n n ≡ true
-same_self n = (bytes_eq-Decides n n).1 refl
-
-apart : (m n : List ℕ) → before n m ≡ true → bytes_eq m n ≡ false
-apart m n h =
-    ⊎_elim
-    (λ (e : bytes_eq m n ≡ true). absurd (before_irrefl n (subst (λ x. before n x ≡ true) ((bytes_eq-Decides m n).0 e) h)))
-    (λ (e : bytes_eq m n ≡ false). e)
-    (cases_Bool (bytes_eq m n))
-
 posted_after : (rs : List Row) (n : List ℕ) → AllByRecursion (λ q. before n q.0 ≡ true) rs → posted rs n ≡ []
 posted_after [] n h = refl
-posted_after (r ∷ rs) n h = cond-false (bytes_eq r.0 n) r.1 (posted rs n) (apart r.0 n h.0) ∙ posted_after rs n h.1
+posted_after (r ∷ rs) n h = cond-false (bytes_eq r.0 n) r.1 (posted rs n) (apart_after r.0 n h.0) ∙ posted_after rs n h.1
 
 posted_head : (r : Row) (rs : List Row) (n : List ℕ) → r.0 ≡ n → posted (r ∷ rs) n ≡ r.1
 posted_head r rs n e = cond-true (bytes_eq r.0 n) r.1 (posted rs n) ((bytes_eq-Decides r.0 n).1 e)

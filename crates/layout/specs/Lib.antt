@@ -1,5 +1,6 @@
 pub mod Fields
 pub mod Layout
+pub mod Parts
 pub mod Meaning
 pub mod Verdict
 pub mod Tests

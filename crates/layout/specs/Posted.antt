@@ -1,5 +1,5 @@
 -- Properties of what obeying bytes mean: a lawful store of postings. Assumes nothing.
-use Rattle.std.specs.Prelude.{◌≡◌, ℕ, zero, suc, ◌+◌, ◌-◌, ◌<◌, ◌≤◌, Bool, true, false, cond, ◌⊎◌, List, [], ◌∷◌, length, get_or, slice_index, slice_index_or, refl}
+use Rattle.std.specs.Prelude.{◌≡◌, ℕ, suc, ◌+◌, ◌<◌, ◌≤◌, Bool, true, false, cond, ◌⊎◌, List, [], ◌∷◌, length, get_or, slice_index, slice_index_or, refl}
 use Rattle.std.proofs.Common.{sym, ap, subst, ◌∙◌, true≢false, inl, inr, ⊎_elim, arith}
 use Rattle.std.specs.Str.{bytes_eq}
 use Rattle.std.proofs.lemmas.List.FromFn.{length-map-range_with_len, get_or-map-range_with_len}
@@ -11,7 +11,7 @@ use Rattle.postings.specs.Lists.{Lawful}
 use Rattle.layout.specs.Fields.{names, span, total, name, earlier, count, slot}
 use Rattle.layout.specs.Layout.{Obeys}
 use Rattle.layout.specs.Meaning.{Row, row, row_slots, rows, posted, meaning}
-use Rattle.layout.specs.Tests.{counted_grows}
+use Rattle.layout.specs.Tests.{counted_grows, far_from_near}
 
 -- ---- rows, one by one
 
@@ -48,26 +48,12 @@ posted_cases (r ∷ rs) n = go (bytes_eq r.0 n) refl (posted_cases rs n)
 pub row_within : (bs : List ℕ) → Obeys bs → (i : ℕ) → i < names bs → earlier bs i + count bs i ≤ total bs
 row_within bs o i l = omega (arith, counted_grows bs i (names bs) l, o.all_counted, o.sums i l)
 
-run_rises : (bs : List ℕ) → Obeys bs → (i k n : ℕ) → i < names bs → k + 1 + n < count bs i → slot bs (earlier bs i + k) < slot bs (earlier bs i + (k + 1 + n))
-run_rises bs o i k zero l h =
-    let e : k + 1 + 0 ≡ k + 1 = omega arith in
-    subst (λ x. slot bs (earlier bs i + k) < slot bs (earlier bs i + x)) (sym e) (o.rising i k l (omega arith))
-run_rises bs o i k (suc n) l h =
-    let e : k + 1 + suc n ≡ (k + 1 + n) + 1 = omega arith in
-    let m : k + 1 + n < count bs i = omega arith in
-    subst (λ x. slot bs (earlier bs i + k) < slot bs (earlier bs i + x)) (sym e)
-    (omega (arith, run_rises bs o i k n l m, o.rising i (k + 1 + n) l (omega arith)))
-
-pub slot_rises : (bs : List ℕ) → Obeys bs → (i j k : ℕ) → i < names bs → j < k → k < count bs i → slot bs (earlier bs i + j) < slot bs (earlier bs i + k)
-slot_rises bs o i j k l h m =
-    let e : j + 1 + (k - (j + 1)) ≡ k = omega arith in
-    subst (λ x. slot bs (earlier bs i + j) < slot bs (earlier bs i + x)) e (run_rises bs o i j (k - (j + 1)) l (omega arith))
-
 pub row_rises : (bs : List ℕ) → Obeys bs → (i : ℕ) → i < names bs → Rising (row_slots bs i)
 row_rises bs o i l j k h m =
     let n : k < count bs i = omega (arith, length_row bs i) in
     let p : j < count bs i = omega arith in
-    rw (get_or_row bs i j p, get_or_row bs i k n) (slot_rises bs o i j k l h n)
+    rw (get_or_row bs i j p, get_or_row bs i k n)
+    (far_from_near (λ a b. slot bs (earlier bs i + a) < slot bs (earlier bs i + b)) (count bs i) (λ a b c p q. omega arith) (λ a q. o.rising i a l q) j k h n)
 
 row_below : (bs : List ℕ) → Obeys bs → (i k : ℕ) → i < names bs → k < length (row_slots bs i) → slice_index (row_slots bs i) k < span bs
 row_below bs o i k l m =

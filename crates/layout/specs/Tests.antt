@@ -1,90 +1,138 @@
 -- Properties of the tests that judge bytes: what each tells, and when it holds. Assumes nothing.
-use Rattle.std.specs.Prelude.{◌≡◌, ℕ, zero, suc, ◌+◌, ◌-◌, ◌*◌, ◌<◌, ◌≤◌, max, Bool, true, false, ◌||◌, List, length, Decides, ◌==◌, ◌≢◌, nat_eq, slice_index, refl}
-use Rattle.std.proofs.Common.{sym, ap, ◌∙◌, ⊎_elim, add-one, arith}
-use Rattle.std.proofs.ByRecursion.{All-get_or, All-from_get_or, Decides-by_and}
-use Rattle.std.proofs.lemmas.Bool.{and_parts, and_from, eqb-true, leb-true, cases_Bool, true≢false}
-use Rattle.std.proofs.lemmas.Bool.Decides.{Decides-below_and, Decides-eqb}
+--
+--   RowsStand    every row keeps its rules, and the counts add up to the number of slots
+--   SlotsStand   no slot is above the last slot, and those of each row rise
+use Rattle.std.specs.Prelude.{◌≡◌, ℕ, zero, suc, ◌+◌, ◌-◌, ◌<◌, ◌≤◌, Bool, true, ◌||◌, List, length, IsTrue, ◌↔◌, ◌==◌, nat_eq, nat_lt, nat_le, slice_index, refl}
+use Rattle.std.proofs.Common.{ap, subst, ⊎_elim, add-one, arith}
+use Rattle.std.specs.List.{list_all}
+use Rattle.std.proofs.lemmas.List.Recursion.{and_at, and_from_places}
+use Rattle.std.proofs.lemmas.Bool.{and_parts, and_from, or_cases, or_left, or_right, eqb-true, eq-eqb, leb-true, le-leb, ltb-true, lt-ltb, cases_lt, cases_eq}
+use Rattle.std.proofs.lemmas.Bool.Decides.{Decides-below_and}
 use Rattle.postings.specs.Names.{before}
-use Rattle.layout.specs.Fields.{names, total, row_at, name_field, name, earlier, count, slot}
+use Rattle.extents.specs.Extents.{last_slot}
+use Rattle.layout.specs.Fields.{names, total, name_field, name, earlier, count, slot}
 use Rattle.layout.specs.Layout.{counted}
-use Rattle.layout.specs.Verdict.{every_below, all_zero, name_stands, row_stands, rows_stand, size_stands, top}
+use Rattle.layout.specs.Verdict.{every_below, all_zero, name_stands, row_stands, rows_stand, slot_stands, run_stands, slots_stand}
 
-pub every_below_decides : (test : ℕ → Bool) (n : ℕ) → Decides (every_below test n) ((k : ℕ) → k < n → test k ≡ true)
+every_below_decides : (test : ℕ → Bool) (n : ℕ) → IsTrue (every_below test n) ↔ ((k : ℕ) → k < n → test k ≡ true)
 every_below_decides test n = Decides-below_and test (λ k. test k ≡ true) (every_below test) (λ k. (λ h. h, λ h. h)) refl (λ m. refl) n
 
-pub every_more : (test : ℕ → Bool) (n : ℕ) → every_below test n ≡ true → test n ≡ true → every_below test (n + 1) ≡ true
-every_more test n h e = rw (add-one n) (and_from (test n) (every_below test n) e h)
+pub all_zero_decides : (xs : List ℕ) → IsTrue (all_zero xs) ↔ ((k : ℕ) → k < length xs → slice_index xs k ≡ 0)
+all_zero_decides xs = (
+  λ h k l. eqb-true _ 0 (and_at (list_all (λ b. b == 0)) (λ b. b == 0) refl (λ _ _. refl) xs k 0 l h),
+  λ h. and_from_places (list_all (λ b. b == 0)) (λ b. b == 0) refl (λ _ _. refl) xs 0 (λ k l. eq-eqb _ 0 (h k l)),
+)
 
-pub every_broken : (test : ℕ → Bool) (n k : ℕ) → k < n → test k ≡ false → every_below test n ≡ false
-every_broken test n k l e =
+-- ---- neighbours, where each test asks for the one before
+
+neighbour_tells : (R : ℕ → ℕ → Bool) (i : ℕ) → (i + 1 == 0 || R (i + 1 - 1) (i + 1)) ≡ true → R i (i + 1) ≡ true
+neighbour_tells R i h =
+    let e : i + 1 - 1 ≡ i = omega arith in
     ⊎_elim
-    (λ (h : every_below test n ≡ true). absurd (true≢false (sym ((every_below_decides test n).0 h k l) ∙ e)))
-    (λ (h : every_below test n ≡ false). h)
-    (cases_Bool (every_below test n))
+    (λ (p : nat_eq (i + 1) 0 ≡ true). absurd (omega (arith, eqb-true _ _ p)))
+    (λ (p : R (i + 1 - 1) (i + 1) ≡ true). subst (λ k. R k (i + 1) ≡ true) e p)
+    (or_cases _ _ h)
 
-pub all_zero_decides : (xs : List ℕ) → Decides (all_zero xs) ((k : ℕ) → k < length xs → slice_index xs k ≡ 0)
-all_zero_decides xs =
-    let d = Decides-by_and (λ x. nat_eq x 0) (λ x. x ≡ 0) all_zero (λ x. Decides-eqb x 0) refl (λ _ _. refl) xs in
-    (λ h k l. All-get_or (λ x. x ≡ 0) xs k 0 l (d.0 h), λ h. d.1 (All-from_get_or (λ x. x ≡ 0) xs 0 h))
+neighbour_test : (R : ℕ → ℕ → Bool) (i n : ℕ) → i < n → ((k : ℕ) → k + 1 < n → R k (k + 1) ≡ true) → (i == 0 || R (i - 1) i) ≡ true
+neighbour_test R i n l h =
+    ⊎_elim
+    (λ (p : i ≡ 0). or_left (i == 0) _ (eq-eqb i 0 p))
+    (λ (p : i ≡ 0 → ⊥).
+    let e : (i - 1) + 1 ≡ i = omega arith in
+    or_right (i == 0) _ (subst (λ k. R (i - 1) k ≡ true) e (h (i - 1) (omega arith))))
+    (cases_eq i 0)
 
--- ---- sums and maxima, one step on
+-- what holds of each number and the next holds of each and every later one
+pub far_from_near : (R : ℕ → ℕ → Type 0) (n : ℕ) → ((i j k : ℕ) → R i j → R j k → R i k) → ((k : ℕ) → k + 1 < n → R k (k + 1)) → (i j : ℕ) → i < j → j < n → R i j
+far_from_near R n chain near i zero h l = absurd (omega arith)
+far_from_near R n chain near i (suc j) h l =
+    let next : R j (suc j) = subst (R j) (add-one j) (near j (omega arith)) in
+    ⊎_elim
+    (λ (m : i < j). chain i j (suc j) (far_from_near R n chain near i j m (omega arith)) next)
+    (λ (m : j ≤ i). let e : j ≡ i = omega (arith, h) in subst (λ k. R k (suc j)) e next)
+    (cases_lt i j)
 
-pub counted_more : (bs : List ℕ) (i : ℕ) → counted bs (i + 1) ≡ counted bs i + count bs i
-counted_more bs i = ap (counted bs) (add-one i)
+-- ---- rows
 
-pub top_more : (bs : List ℕ) (j : ℕ) → top bs (j + 1) ≡ max (top bs j) (slot bs j + 1)
-top_more bs j = ap (top bs) (add-one j)
-
-pub counted_weak : (bs : List ℕ) (i n : ℕ) → counted bs i ≤ counted bs (i + n)
-counted_weak bs i zero = omega (arith, ap (counted bs) (let e : i ≡ i + 0 = omega arith in e))
-counted_weak bs i (suc n) =
-    let e : (i + n) + 1 ≡ i + suc n = omega arith in
-    omega (arith, counted_weak bs i n, counted_more bs (i + n), ap (counted bs) e)
-
+-- the slots of a row come before those of every later one
 pub counted_grows : (bs : List ℕ) (i n : ℕ) → i < n → counted bs i + count bs i ≤ counted bs n
-counted_grows bs i n l =
-    let e : (i + 1) + (n - (i + 1)) ≡ n = omega arith in
-    omega (arith, counted_weak bs (i + 1) (n - (i + 1)), counted_more bs i, ap (counted bs) e)
-
-pub all_zero_broken : (xs : List ℕ) (k : ℕ) → k < length xs → (slice_index xs k ≢ 0) → all_zero xs ≡ false
-all_zero_broken xs k l e =
+counted_grows bs i zero l = absurd (omega arith)
+counted_grows bs i (suc n) l =
     ⊎_elim
-    (λ (h : all_zero xs ≡ true). absurd (e ((all_zero_decides xs).0 h k l)))
-    (λ (h : all_zero xs ≡ false). h)
-    (cases_Bool (all_zero xs))
+    (λ (h : i < n). omega (arith, counted_grows bs i n h))
+    (λ (h : n ≤ i). let e : i ≡ n = omega (arith, l) in omega (arith, ap (λ j. counted bs j + count bs j) e))
+    (cases_lt i n)
 
--- ---- what the tests of a row and of all rows tell
+pub record RowsStand (bs : List ℕ) : Type 0 where
+  pub named : (i : ℕ) → i < names bs → name_stands (name_field bs i) ≡ true
+  pub ordered : (i : ℕ) → i + 1 < names bs → before (name bs i) (name bs (i + 1)) ≡ true
+  pub sums : (i : ℕ) → i < names bs → earlier bs i ≡ counted bs i
+  pub some : (i : ℕ) → i < names bs → 1 ≤ count bs i
+  pub all_counted : counted bs (names bs) ≡ total bs
 
-pub record RowStands (bs : List ℕ) (i : ℕ) : Type 0 where
-  pub named : name_stands (name_field bs i) ≡ true
-  pub follows : (i == 0 || before (name bs (i - 1)) (name bs i)) ≡ true
-  pub sum : earlier bs i ≡ counted bs i
-  pub some : 1 ≤ count bs i
-
-pub row_tells : (bs : List ℕ) (i : ℕ) → row_stands bs i ≡ true → RowStands bs i
-unfolding row_stands
-row_tells bs i h =
-    let a = and_parts (name_stands (name_field bs i)) _ h in
-    let b = and_parts (i == 0 || before (name bs (i - 1)) (name bs i)) _ a.1 in
-    let d = and_parts (earlier bs i == counted bs i) _ b.1 in
-    record { named = a.0; follows = b.0; sum = eqb-true _ _ d.0; some = leb-true _ _ d.1 }
-
-pub rows_tell : (bs : List ℕ) → rows_stand bs ≡ true → (i : ℕ) → i < names bs → RowStands bs i
-unfolding rows_stand
-rows_tell bs h i l =
-    let a = and_parts (every_below (row_stands bs) (names bs)) _ h in
-    row_tells bs i ((every_below_decides (row_stands bs) (names bs)).0 a.0 i l)
-
-pub rows_total : (bs : List ℕ) → rows_stand bs ≡ true → counted bs (names bs) ≡ total bs
-unfolding rows_stand
-rows_total bs h = eqb-true _ _ (and_parts (every_below (row_stands bs) (names bs)) _ h).1
+pub rows_stand_decides : (bs : List ℕ) → IsTrue (rows_stand bs) ↔ RowsStand bs
+unfolding rows_stand row_stands
+rows_stand_decides bs =
+    let each = every_below_decides (row_stands bs) (names bs) in
+    let follows = λ (i j : ℕ). before (name bs i) (name bs j) in (
+      λ h.
+          let all = and_parts (every_below (row_stands bs) (names bs)) _ h in
+          let field = λ (i : ℕ) (l : i < names bs). and_parts (name_stands (name_field bs i)) _ (each.0 all.0 i l) in
+          let place = λ (i : ℕ) (l : i < names bs). and_parts (i == 0 || follows (i - 1) i) _ (field i l).1 in
+          let sum = λ (i : ℕ) (l : i < names bs). and_parts (earlier bs i == counted bs i) _ (place i l).1 in
+          record {
+            named = λ i l. (field i l).0;
+            ordered = λ i l. neighbour_tells follows i (place (i + 1) l).0;
+            sums = λ i l. eqb-true _ _ (sum i l).0;
+            some = λ i l. leb-true _ _ (sum i l).1;
+            all_counted = eqb-true _ _ all.1;
+          },
+      λ s.
+          and_from _ _
+          (each.1 (λ i l.
+          and_from _ _ (s.named i l)
+          (and_from _ _ (neighbour_test follows i (names bs) l s.ordered) (and_from _ _ (eq-eqb _ _ (s.sums i l)) (le-leb _ _ (s.some i l))))))
+          (eq-eqb _ _ s.all_counted),
+    )
 
 -- the slots of a row lie among all slots
-pub rows_within : (bs : List ℕ) → rows_stand bs ≡ true → (i : ℕ) → i < names bs → earlier bs i + count bs i ≤ total bs
-rows_within bs h i l = omega (arith, counted_grows bs i (names bs) l, rows_total bs h, (rows_tell bs h i l).sum)
+pub rows_within : (bs : List ℕ) → RowsStand bs → (i : ℕ) → i < names bs → earlier bs i + count bs i ≤ total bs
+rows_within bs s i l = omega (arith, counted_grows bs i (names bs) l, s.all_counted, s.sums i l)
 
--- ---- the size
+-- ---- slots
 
-pub size_tells : (bs : List ℕ) → size_stands bs ≡ true → length bs ≡ row_at (names bs) + 4 * total bs
-unfolding size_stands
-size_tells bs h = eqb-true _ _ h
+-- the row and the place in it of the j-th of all slots
+pub located : (bs : List ℕ) (n j : ℕ) → j < counted bs n → (i : ℕ) × (k : ℕ) × (i < n) × (k < count bs i) × (counted bs i + k ≡ j)
+located bs zero j h = absurd (omega arith)
+located bs (suc n) j h =
+    ⊎_elim
+    (λ (l : j < counted bs n). let p = located bs n j l in (p.0, p.1, omega (arith, p.2), p.3, p.4))
+    (λ (l : counted bs n ≤ j). (n, j - counted bs n, omega arith, omega arith, omega arith))
+    (cases_lt j (counted bs n))
+
+pub record SlotsStand (bs : List ℕ) : Type 0 where
+  pub bound : (j : ℕ) → j < total bs → slot bs j ≤ last_slot
+  pub rising : (i k : ℕ) → i < names bs → k + 1 < count bs i → slot bs (earlier bs i + k) < slot bs (earlier bs i + (k + 1))
+
+pub slots_stand_decides : (bs : List ℕ) → RowsStand bs → IsTrue (slots_stand bs) ↔ SlotsStand bs
+unfolding slots_stand run_stands slot_stands
+slots_stand_decides bs rows =
+    let each = every_below_decides (run_stands bs) (names bs) in
+    let one = λ (i : ℕ). every_below_decides (slot_stands bs (earlier bs i)) (count bs i) in
+    let rises = λ (i j k : ℕ). nat_lt (slot bs (earlier bs i + j)) (slot bs (earlier bs i + k)) in (
+      λ h.
+          let parts = λ (i k : ℕ) (l : i < names bs) (m : k < count bs i).
+          and_parts (nat_le (slot bs (earlier bs i + k)) last_slot) (k == 0 || rises i (k - 1) k) ((one i).0 (each.0 h i l) k m) in
+          record {
+            bound = λ j l.
+                let p = located bs (names bs) j (omega (arith, rows.all_counted)) in
+                let e : earlier bs p.0 + p.1 ≡ j = omega (arith, rows.sums p.0 p.2, p.4) in
+                subst (λ x. slot bs x ≤ last_slot) e (leb-true _ _ (parts p.0 p.1 p.2 p.3).0);
+            rising = λ i k l m. ltb-true _ _ (neighbour_tells (rises i) k (parts i (k + 1) l m).1);
+          },
+      λ s.
+          each.1 (λ i l.
+          (one i).1 (λ k m.
+          and_from _ _ (le-leb _ _ (s.bound (earlier bs i + k) (omega (arith, rows_within bs rows i l))))
+          (neighbour_test (rises i) k (count bs i) m (λ q n. lt-ltb _ _ (s.rising i q l n))))),
+    )

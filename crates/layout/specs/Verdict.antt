@@ -13,7 +13,8 @@
 --   span_stands     the span is one past the largest slot, or 0
 --   verdict         the first rule that is broken, in this order: 15 bytes or more, mark, version, size, rows, slots, span
 --   number          the number of a refusal
-use Rattle.std.specs.Prelude.{ℕ, zero, suc, ◌+◌, ◌-◌, ◌*◌, max, Bool, true, cond, not, ◌&&◌, ◌||◌, List, [], ◌∷◌, length, take, drop, Ok, Err, Result, ◌==◌, nat_le, nat_lt}
+use Rattle.std.specs.Prelude.{ℕ, zero, suc, ◌+◌, ◌-◌, ◌*◌, max, Bool, true, cond, not, ◌&&◌, ◌||◌, List, length, take, drop, Ok, Err, Result, ◌==◌, nat_le, nat_lt}
+use Rattle.std.specs.List.{list_all}
 use Rattle.std.specs.Str.{bytes_eq}
 use Rattle.postings.specs.Names.{is_name, before}
 use Rattle.extents.specs.Extents.{last_slot}
@@ -27,8 +28,7 @@ every_below test zero = true
 every_below test (suc n) = test n && every_below test n
 
 abbrev pub all_zero : List ℕ → Bool
-all_zero [] = true
-all_zero (x ∷ xs) = x == 0 && all_zero xs
+all_zero bs = list_all (λ b. b == 0) bs
 
 unfoldable pub name_stands : List ℕ → Bool
 name_stands field = is_name (trim field) && all_zero (drop (length (trim field)) field)

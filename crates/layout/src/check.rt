@@ -1,192 +1,96 @@
 // Whether bytes obey the layout of a sealed index, and the first rule that they break.
-ghost use Rattle.std.specs.Prelude.{◌≡◌, ℕ, ◌+◌, ◌-◌, ◌*◌, ◌<◌, ◌≤◌, Bool, true, ◌&&◌, ◌||◌, length, take, ◌==◌, nat_le};
-ghost use Rattle.std.specs.Str.{bytes_eq};
-ghost use Rattle.layout.specs.Fields.{mark, version, row_at, names, total, name, earlier, count, span};
-ghost use Rattle.postings.specs.Names.{before};
-ghost use Rattle.layout.specs.Layout.{counted};
-ghost use Rattle.layout.specs.Verdict.{all_zero, name_stands, row_stands, rows_stand, slot_stands, run_stands, slots_stand, top, size_stands, span_stands, verdict};
+ghost use Rattle.std.specs.Prelude.{◌≡◌, ◌↔◌, ◌<◌, true, IsTrue, length};
+ghost use Rattle.std.specs.List.{AllAdjacentBelow};
+ghost use Rattle.layout.specs.Fields.{le32, total};
+ghost use Rattle.layout.specs.Verdict.{name_stands, rows_stand, slots_stand, top, verdict};
 
 use super::fields::{
-    HEAD_SIZE, index_size, name_count, name_field, row_count, row_earlier, row_name, slot_at,
-    slot_count, span, trimmed, u16_at,
+    SLOT_SIZE, name_field, row_count, row_earlier, row_name, slot_number, trimmed,
 };
+use super::parts::{Head, Parts};
 use super::refusal::OpenRefusal;
+use extents::extent::LAST_SLOT;
 use postings::name::{compare, is_name};
 
 // The version of the layout.
 pub const VERSION: u16 = 1;
-
-// The largest slot.
-const LAST_SLOT: u32 = 1_073_741_823;
-
-// Whether every byte is a zero.
-fn all_zero(bytes: &[u8]) -> bool
-    ensures { result ≡ all_zero bytes.now }
-{
-    for b in bytes {
-        if *b != 0 {
-            return false;
-        }
-    }
-    true
-}
 
 // Whether a name field holds a name and then zeros.
 fn name_stands(field: &[u8]) -> bool
     ensures { result ≡ name_stands field.now }
 {
     let text = trimmed(field);
-    is_name(text) && all_zero(&field[text.len()..])
-}
-
-// Whether a row's name stands after the one before it.
-fn follows(bytes: &[u8], i: usize) -> bool
-    requires { row_at i + 24 ≤ length bytes.now }
-    ensures { result ≡ (i == 0 || before (name bytes.now (i - 1)) (name bytes.now i)) }
-{
-    i == 0 || compare(row_name(bytes, i - 1), row_name(bytes, i)).is_lt()
-}
-
-// Whether a row keeps its rules, where the rows before it count so many slots.
-fn row_stands(bytes: &[u8], i: usize, sum: u64) -> bool
-    requires { (row_at i + 24 ≤ length bytes.now) × (sum ≡ counted bytes.now i) }
-    ensures { result ≡ row_stands bytes.now i }
-{
-    name_stands(name_field(bytes, i))
-        && follows(bytes, i)
-        && row_earlier(bytes, i) as u64 == sum
-        && 1 <= row_count(bytes, i)
+    is_name(text) && field[text.len()..].iter().all(|&b| b == 0)
 }
 
 // Whether every row keeps its rules, and their counts add up to the number of slots.
-fn rows_stand(bytes: &[u8]) -> bool
-    requires { length bytes.now ≡ row_at (names bytes.now) + 4 * total bytes.now }
-    ensures { result ≡ rows_stand bytes.now }
+fn rows_stand(parts: &Parts<'_>) -> bool
+    ensures { result ≡ rows_stand parts.now.head.bytes.now }
 {
     let mut sum: u64 = 0;
-    for i in 0..name_count(bytes) {
-        if !row_stands(bytes, i, sum) {
+    for row in parts.rows {
+        if !name_stands(name_field(row)) || row_earlier(row) as u64 != sum || row_count(row) == 0 {
             return false;
         }
-        sum += row_count(bytes, i) as u64;
+        sum += row_count(row) as u64;
     }
-    sum == slot_count(bytes) as u64
+    sum == parts.slots.len() as u64
+        && parts
+            .rows
+            .is_sorted_by(|a, b| compare(row_name(a), row_name(b)).is_lt())
 }
 
-// Whether the k-th slot from one on is above the one before it, and not above the last slot.
-fn slot_stands(bytes: &[u8], from: usize, k: usize) -> bool
-    requires size { length bytes.now ≡ row_at (names bytes.now) + 4 * total bytes.now }
-    requires within { from + k < total bytes.now }
-    ensures { result ≡ slot_stands bytes.now from k }
+// Whether each slot is above the one before it.
+fn rises(slots: &[[u8; SLOT_SIZE]]) -> bool
+    ensures { IsTrue result ↔ AllAdjacentBelow (λ a b. le32 a 0 < le32 b 0) slots.now (length slots.now) }
 {
-    let slot = slot_at(bytes, from + k);
-    slot <= LAST_SLOT && (k == 0 || slot_at(bytes, from + (k - 1)) < slot)
+    slots.is_sorted_by(|a, b| slot_number(a) < slot_number(b))
 }
 
-// Whether every slot of a row stands.
-fn run_stands(bytes: &[u8], i: usize) -> bool
-    requires size { length bytes.now ≡ row_at (names bytes.now) + 4 * total bytes.now }
-    requires within { i < names bytes.now }
-    requires counts { earlier bytes.now i + count bytes.now i ≤ total bytes.now }
-    ensures { result ≡ run_stands bytes.now i }
+// Whether no slot is above the last slot, and those of each row rise.
+fn slots_stand(parts: &Parts<'_>) -> bool
+    requires { rows_stand parts.now.head.bytes.now ≡ true }
+    ensures { result ≡ slots_stand parts.now.head.bytes.now }
 {
-    let from = row_earlier(bytes, i) as usize;
-    let count = row_count(bytes, i) as usize;
-    for k in 0..count {
-        if !slot_stands(bytes, from, k) {
-            return false;
-        }
-    }
-    true
-}
-
-// Whether the slots of every row stand.
-fn slots_stand(bytes: &[u8]) -> bool
-    requires size { length bytes.now ≡ row_at (names bytes.now) + 4 * total bytes.now }
-    requires rows { rows_stand bytes.now ≡ true }
-    ensures { result ≡ slots_stand bytes.now }
-{
-    for i in 0..name_count(bytes) {
-        if !run_stands(bytes, i) {
-            return false;
-        }
-    }
-    true
+    parts
+        .slots
+        .iter()
+        .all(|slot| slot_number(slot) <= LAST_SLOT)
+        && parts.rows.iter().all(|row| rises(parts.run(row)))
 }
 
 // One past the largest slot, or 0.
-fn largest_end(bytes: &[u8]) -> u64
-    requires { length bytes.now ≡ row_at (names bytes.now) + 4 * total bytes.now }
-    ensures { result ≡ top bytes.now (total bytes.now) }
+fn largest_end(parts: &Parts<'_>) -> u64
+    ensures { result ≡ top parts.now.head.bytes.now (total parts.now.head.bytes.now) }
 {
-    let mut end: u64 = 0;
-    for j in 0..slot_count(bytes) as usize {
-        end = end.max(slot_at(bytes, j) as u64 + 1);
-    }
-    end
-}
-
-// Whether there are bytes enough for a head.
-fn has_head(bytes: &[u8]) -> bool
-    ensures { result ≡ nat_le 15 (length bytes.now) }
-{
-    HEAD_SIZE <= bytes.len()
-}
-
-// Whether the bytes begin with the mark.
-fn marked(bytes: &[u8]) -> bool
-    ensures { result ≡ bytes_eq (take 3 bytes.now) mark }
-{
-    bytes.starts_with(b"SLX")
-}
-
-// Whether the version is the one that is read here.
-fn version_stands(bytes: &[u8]) -> bool
-    requires { 15 ≤ length bytes.now }
-    ensures { result ≡ (version bytes.now == 1) }
-{
-    u16_at(bytes, 3) == VERSION
-}
-
-// Whether head, rows and slots are all there, and nothing after them.
-fn size_stands(bytes: &[u8]) -> bool
-    requires { 15 ≤ length bytes.now }
-    ensures { result ≡ size_stands bytes.now }
-{
-    bytes.len() == index_size(name_count(bytes), slot_count(bytes) as usize)
-}
-
-// Whether the span is one past the largest slot, or 0.
-fn span_stands(bytes: &[u8]) -> bool
-    requires { length bytes.now ≡ row_at (names bytes.now) + 4 * total bytes.now }
-    ensures { result ≡ span_stands bytes.now }
-{
-    span(bytes) as u64 == largest_end(bytes)
+    parts
+        .slots
+        .iter()
+        .map(|slot| slot_number(slot) as u64 + 1)
+        .max()
+        .unwrap_or(0)
 }
 
 // The first rule that the bytes break, if any.
+#[tactic(auto, using(std::proofs::lemmas::Bool::Decides::nat_tests), unfolding(crate::specs::Verdict::verdict, crate::specs::Verdict::span_stands))]
 pub fn judge(bytes: &[u8]) -> Result<(), OpenRefusal>
     ensures { result ≡ verdict bytes.now }
 {
-    if !has_head(bytes) {
-        return Err(OpenRefusal::Short);
-    }
-    if !marked(bytes) {
+    let head = Head::new(bytes).ok_or(OpenRefusal::Short)?;
+    if !head.is_marked() {
         return Err(OpenRefusal::Mark);
     }
-    if !version_stands(bytes) {
+    if head.version() != VERSION {
         return Err(OpenRefusal::Version);
     }
-    if !size_stands(bytes) {
-        return Err(OpenRefusal::Size);
-    }
-    if !rows_stand(bytes) {
+    let parts = head.parts().ok_or(OpenRefusal::Size)?;
+    if !rows_stand(&parts) {
         return Err(OpenRefusal::Row);
     }
-    if !slots_stand(bytes) {
+    if !slots_stand(&parts) {
         return Err(OpenRefusal::Slot);
     }
-    if !span_stands(bytes) {
+    if parts.head.span() as u64 != largest_end(&parts) {
         return Err(OpenRefusal::Span);
     }
     Ok(())

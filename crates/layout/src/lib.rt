@@ -4,5 +4,5 @@
 pub mod check;
 pub mod fields;
 pub mod index;
+mod parts;
 pub mod refusal;
-mod seek;

@@ -1,10 +1,10 @@
 -- A logbook's rows are rows that an index can hold, and what is written of them seals the logbook. Assumes nothing.
-use Rattle.std.proofs.Common.{◌≡◌, ℕ, zero, suc, ◌+◌, ◌-◌, ◌*◌, ◌<◌, ◌≤◌, true, cond, List, [], ◌∷◌, ◌++◌, length, get_or, take, drop, sum_by, sym, refl, ap, ◌∙◌, subst, ⊎_elim, arith}
+use Rattle.std.proofs.Common.{◌≡◌, ℕ, zero, suc, ◌+◌, ◌-◌, ◌<◌, ◌≤◌, true, cond, List, [], ◌∷◌, ◌++◌, length, get_or, take, drop, sum_by, sym, refl, ap, ◌∙◌, subst, ⊎_elim, arith, Ok}
 use mathlib.Core.Path.{fun_ext}
 use Rattle.std.specs.Str.{bytes_eq}
 use Rattle.std.proofs.lemmas.List.{get_or-take, get_or_past, length-map, length-take, length-append, take_at, drop_at}
 use Rattle.std.proofs.lemmas.List.Sums.{sum_by-cons}
-use Rattle.std.proofs.lemmas.Bool.{cases_lt}
+use Rattle.std.proofs.lemmas.Bool.{cases_lt, cond-false, le-ltb}
 use Rattle.postings.specs.Names.{is_name, before}
 use Rattle.postings.specs.Rising.{Rising}
 use Rattle.postings.proofs.Firsts.{rising_weak}
@@ -18,9 +18,10 @@ use Rattle.layout.specs.Fields.{span}
 use Rattle.layout.specs.Layout.{Obeys}
 use Rattle.layout.specs.Meaning.{Row, rows, posted, meaning}
 use Rattle.layout.proofs.OneForm.{one_meaning}
-use Rattle.sealed.specs.Sealing.{index_size, Bytes, Sealed}
-use Rattle.sealed.specs.Writing.{le2, le4, pair_of, pairs, tally, head_bytes, row_run, slot_run, all_slots, Put}
-use Rattle.sealed.proofs.Puts.{put_then}
+use Rattle.sealed.specs.Sealing.{index_size, Bytes, Sealed, Seals}
+use Rattle.sealed.specs.declared.writer.Writer.{Writer}
+use Rattle.sealed.specs.Writing.{le2, le4, pair_of, pairs, tally, head_bytes, row_run, slot_run, all_slots, Put, Writes}
+use Rattle.sealed.proofs.Puts.{writes_then}
 use Rattle.sealed.proofs.Runs.{length_row_run, length_slot_run, length_all_slots, pairs_short}
 use Rattle.sealed.proofs.Encoded.{none, Sound, encoded, encoded_obeys, encoded_rows, encoded_span, encoded_size}
 
@@ -90,7 +91,7 @@ module _ (b : Logbook) where
       let x = p.0 in
       let n : k < length (slots_of x) = subst (λ (r : Row). k < length r.1) p.1 m in
       let z = length (slots_of x) - 1 in
-      let u : get_or (slots_of x) k 0 ≤ get_or (slots_of x) z 0 = rising_weak (slots_of x) x.slots.rising k z (omega arith) (omega arith) in
+      let u : get_or (slots_of x) k 0 ≤ get_or (slots_of x) z 0 = rising_weak (slots_of x) x.rising k z (omega arith) (omega arith) in
       let v : last_of x < span_of xs = subst (λ (y : book.Row). last_of y < span_of xs) (p.2 x) (below_span xs i x (within i l)) in
       subst (λ (r : Row). get_or r.1 k 0 < b.span) (sym p.1) (omega (arith, b.latest))
 
@@ -117,7 +118,7 @@ book_sound b =
       named = each b (λ r. is_name r.0 ≡ true) (λ x. x.name.named);
       ordered = in_order b;
       some = each b (λ r. 1 ≤ length r.1) (λ x. let h = x.some in omega arith);
-      rising = each b (λ r. Rising r.1) (λ x. x.slots.rising);
+      rising = each b (λ r. Rising r.1) (λ x. x.rising);
       over = below b;
       reached = topmost b;
     }
@@ -135,7 +136,7 @@ index_means b =
     let f : posted (rows bs) ≡ slots_under b = fun_ext (λ n. ap (λ rs. posted rs n) e ∙ posted_pairs (rows_of b) n) in
     ap (λ (g : List ℕ → List ℕ). record { slots = g; span = span bs }) f ∙ ap (λ (n : ℕ). record { slots = slots_under b; span = n }) (encoded_span (pairs (rows_of b)) b.span (book_sound b))
 
-pub bytes_take : (n : ℕ) (xs : List ℕ) → Bytes xs → Bytes (take n xs)
+bytes_take : (n : ℕ) (xs : List ℕ) → Bytes xs → Bytes (take n xs)
 bytes_take n xs h p =
     ⊎_elim
     (λ (l : p < n). rw (get_or-take n xs p 0 l) (h p))
@@ -143,7 +144,7 @@ bytes_take n xs h p =
     (cases_lt p n)
 
 -- a buffer into which the index was written from its start on
-pub sealed_from : (b : Logbook) (was out : List ℕ) → Bytes out → Put 0 (index_of b) was out → Sealed b was out
+sealed_from : (b : Logbook) (was out : List ℕ) → Bytes out → Put 0 (index_of b) was out → Sealed b was out
 sealed_from b was out x p =
     let bs = index_of b in
     let size = index_size b in
@@ -159,34 +160,43 @@ sealed_from b was out x p =
       rest = ap (drop size) p ∙ drop_at bs (drop (0 + length bs) was) size n ∙ ap (λ k. drop k was) m;
     }
 
-length_head : (n s t : ℕ) → length (head_bytes n s t) ≡ 15
+pub length_head : (n s t : ℕ) → length (head_bytes n s t) ≡ 15
 unfolding le2 le4
 length_head n s t = refl
 
--- head, rows and slots, written one after another
+-- head, rows and slots, written one after another from the start of a buffer on
 pub index_written :
-    (b : Logbook) (xs : List book.Row) (s t : ℕ) (u v w z : List ℕ) → xs ≡ rows_of b → s ≡ b.span → t ≡ b.count →
-    index_size b ≤ length u → length v ≡ length u →
-    Put 0 (head_bytes (length xs) s t) u v → Put 15 (row_run 0 (pairs xs)) v w → Put (15 + 24 * length xs) (slot_run (all_slots (pairs xs))) w z →
-    Put 0 (index_of b) u z
-index_written b xs s t u v w z e f g room same p q r =
+    (b : Logbook) (xs : List book.Row) (s t : ℕ) (u v w z : Writer) → xs ≡ rows_of b → s ≡ b.span → t ≡ b.count →
+    u.at ≡ 0 → index_size b ≤ length u.buffer.now →
+    Writes u v (head_bytes (length xs) s t) → Writes v w (row_run 0 (pairs xs)) → Writes w z (slot_run (all_slots (pairs xs))) →
+    Put 0 (index_of b) u.buffer.now z.buffer.now
+index_written b xs s t u v w z e f g start room p q r =
     let ps = pairs (rows_of b) in
     let n = length-map (rows_of b) pair_of in
     let m = tally_book b in
     let x : length xs ≡ length ps = ap length e ∙ sym n in
     let y : t ≡ tally ps = g ∙ sym m in
     let head = head_bytes (length ps) b.span (tally ps) in
-    let p1 : Put 0 head u v =
-    subst (λ (k : ℕ). Put 0 (head_bytes (length ps) b.span k) u v) y
-    (subst (λ (k : ℕ). Put 0 (head_bytes (length ps) k t) u v) f (subst (λ (k : ℕ). Put 0 (head_bytes k s t) u v) x p)) in
-    let q1 : Put 15 (row_run 0 ps) v w = subst (λ (ys : List book.Row). Put 15 (row_run 0 (pairs ys)) v w) e q in
-    let r1 : Put (15 + 24 * length (rows_of b)) (slot_run (all_slots ps)) w z =
-    subst (λ (ys : List book.Row). Put (15 + 24 * length ys) (slot_run (all_slots (pairs ys))) w z) e r in
+    let p1 : Writes u v head = subst (Writes u v) (λ i. head_bytes (x i) (f i) (y i)) p in
+    let q1 : Writes v w (row_run 0 ps) = subst (λ (ys : List book.Row). Writes v w (row_run 0 (pairs ys))) e q in
+    let r1 : Writes w z (slot_run (all_slots ps)) = subst (λ (ys : List book.Row). Writes w z (slot_run (all_slots (pairs ys)))) e r in
     let a = length_row_run 0 ps (pairs_short (rows_of b)) in
     let c = length_slot_run (all_slots ps) in
     let d = length_all_slots ps in
     let h = length-append (row_run 0 ps) (slot_run (all_slots ps)) in
     let l = length_head (length ps) b.span (tally ps) in
-    let body : Put 15 (row_run 0 ps ++ slot_run (all_slots ps)) v z =
-    put_then 15 (15 + 24 * length (rows_of b)) (row_run 0 ps) (slot_run (all_slots ps)) v w z (omega arith) (omega arith) q1 r1 in
-    put_then 0 15 head (row_run 0 ps ++ slot_run (all_slots ps)) u v z (omega arith) (omega arith) p1 body
+    let at = p1.at in
+    let size = p1.size in
+    let body : Writes v z (row_run 0 ps ++ slot_run (all_slots ps)) = writes_then v w z (row_run 0 ps) (slot_run (all_slots ps)) (omega arith) q1 r1 in
+    let whole = writes_then u v z head (row_run 0 ps ++ slot_run (all_slots ps)) (omega arith) p1 body in
+    subst (λ k. Put k (index_of b) u.buffer.now z.buffer.now) start whole.bytes
+
+-- what sealing promises, once a writer went over the buffer
+pub seals_from :
+    (b : Logbook) (was out : List ℕ) (size : ℕ) (u z : Writer) → size ≡ index_size b → index_size b ≤ length was → Bytes out →
+    u.buffer.now ≡ was → out ≡ z.buffer.now → Put 0 (index_of b) u.buffer.now z.buffer.now → Seals b was out (Ok size)
+seals_from b was out size u z sized room bytes whole ended put =
+    record {
+      says = ap Ok sized ∙ sym (cond-false _ _ _ (le-ltb (length was) (index_size b) room));
+      written = sealed_from b was out bytes (ended ∙ put ∙ ap (λ bs. take 0 bs ++ (index_of b ++ drop (0 + length (index_of b)) bs)) whole);
+    }

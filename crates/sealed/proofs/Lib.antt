@@ -3,4 +3,3 @@ pub mod Runs
 pub mod Fields
 pub mod Encoded
 pub mod Books
-pub mod Answers

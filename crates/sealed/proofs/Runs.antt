@@ -7,8 +7,9 @@ use Rattle.std.proofs.lemmas.List.Sums.{sum_by-cons, sum_by_more, sum_by-take-le
 use Rattle.postings.proofs.Names.{name_short}
 use Rattle.shift_logbook.specs.declared.row.Row as book
 use Rattle.layout.specs.Meaning.{Row}
-use Rattle.sealed.specs.Writing.{le2, le4, padded, pair_of, pairs, tally, row_bytes, row_run, slot_run, all_slots, Put}
-use Rattle.sealed.proofs.Puts.{put_then}
+use Rattle.sealed.specs.declared.writer.Writer.{Writer}
+use Rattle.sealed.specs.Writing.{le2, le4, padded, pair_of, pairs, tally, row_bytes, row_run, slot_run, all_slots, Writes}
+use Rattle.sealed.proofs.Puts.{writes_then}
 
 -- ---- lengths
 
@@ -94,42 +95,43 @@ tally_within rs i x l e = omega (arith, tally_more rs i x l e, sum_by-take-le (�
 
 -- ---- the turn of a loop that writes
 
-pub rows_more :
-    (rs : List book.Row) (i : ℕ) (x : book.Row) (at earlier : ℕ) (u v w : List ℕ) → i < length rs → x ≡ get_or rs i x →
-    15 + 24 * length rs ≤ length u → at ≡ 15 + 24 * i → earlier ≡ tally (take i (pairs rs)) →
-    Put 15 (row_run 0 (take i (pairs rs))) u v → Put at (row_bytes earlier (pair_of x)) v w → Put 15 (row_run 0 (take (i + 1) (pairs rs))) u w
-rows_more rs i x at earlier u v w l e room a f p q =
-    let ps = pairs rs in
-    let m = length-map rs pair_of in
-    let n = length_row_run 0 (take i ps) (All-take Short i ps (pairs_short rs)) in
-    let k = length-take-le i ps (omega arith) in
-    let t : earlier ≡ 0 + tally (take i ps) = omega arith in
-    let g : row_run 0 (take i ps) ++ row_bytes earlier (pair_of x) ≡ row_run 0 (take (i + 1) ps) =
-    ap (λ y. row_run 0 (take i ps) ++ row_bytes y (pair_of x)) t ∙ sym (row_run_push 0 (take i ps) (pair_of x)) ∙ ap (row_run 0) (sym (pairs_more rs i x l e)) in
-    let b = length_row_bytes earlier (pair_of x) (name_short (pair_of x).0 x.name.named) in
-    subst (λ (zs : List ℕ). Put 15 zs u w) g (put_then 15 at (row_run 0 (take i ps)) (row_bytes earlier (pair_of x)) u v w (omega arith) (omega arith) p q)
+module _ (u v w : Writer) where
+  pub rows_more :
+      (rs : List book.Row) (i : ℕ) (x : book.Row) (earlier : ℕ) → i < length rs → x ≡ get_or rs i x →
+      u.at + 24 * length rs ≤ length u.buffer.now → earlier ≡ tally (take i (pairs rs)) →
+      Writes u v (row_run 0 (take i (pairs rs))) → Writes v w (row_bytes earlier (pair_of x)) → Writes u w (row_run 0 (take (i + 1) (pairs rs)))
+  rows_more rs i x earlier l e room f p q =
+      let ps = pairs rs in
+      let m = length-map rs pair_of in
+      let n = length_row_run 0 (take i ps) (All-take Short i ps (pairs_short rs)) in
+      let k = length-take-le i ps (omega arith) in
+      let t : earlier ≡ 0 + tally (take i ps) = omega arith in
+      let g : row_run 0 (take i ps) ++ row_bytes earlier (pair_of x) ≡ row_run 0 (take (i + 1) ps) =
+      ap (λ y. row_run 0 (take i ps) ++ row_bytes y (pair_of x)) t ∙ sym (row_run_push 0 (take i ps) (pair_of x)) ∙ ap (row_run 0) (sym (pairs_more rs i x l e)) in
+      let b = length_row_bytes earlier (pair_of x) (name_short (pair_of x).0 x.name.named) in
+      subst (Writes u w) g (writes_then u v w (row_run 0 (take i ps)) (row_bytes earlier (pair_of x)) (omega arith) p q)
 
-pub slots_more :
-    (xs : List ℕ) (k at : ℕ) (u v w : List ℕ) → k < length xs → at + 4 * length xs ≤ length u →
-    Put at (slot_run (take k xs)) u v → Put (at + 4 * k) (le4 (get_or xs k 0)) v w → Put at (slot_run (take (k + 1) xs)) u w
-slots_more xs k at u v w l room p q =
-    let n = length_slot_run (take k xs) in
-    let m = length-take-le k xs (omega arith) in
-    let b = length_le4 (get_or xs k 0) in
-    let g : slot_run (take k xs) ++ le4 (get_or xs k 0) ≡ slot_run (take (k + 1) xs) = sym (slot_run_push (take k xs) (get_or xs k 0)) ∙ ap slot_run (sym (take_more xs k 0 l)) in
-    subst (λ (zs : List ℕ). Put at zs u w) g (put_then at (at + 4 * k) (slot_run (take k xs)) (le4 (get_or xs k 0)) u v w (omega arith) (omega arith) p q)
+  pub slots_more :
+      (xs : List ℕ) (k : ℕ) → k < length xs → u.at + 4 * length xs ≤ length u.buffer.now →
+      Writes u v (slot_run (take k xs)) → Writes v w (le4 (get_or xs k 0)) → Writes u w (slot_run (take (k + 1) xs))
+  slots_more xs k l room p q =
+      let n = length_slot_run (take k xs) in
+      let m = length-take-le k xs (omega arith) in
+      let b = length_le4 (get_or xs k 0) in
+      let g : slot_run (take k xs) ++ le4 (get_or xs k 0) ≡ slot_run (take (k + 1) xs) = sym (slot_run_push (take k xs) (get_or xs k 0)) ∙ ap slot_run (sym (take_more xs k 0 l)) in
+      subst (Writes u w) g (writes_then u v w (slot_run (take k xs)) (le4 (get_or xs k 0)) (omega arith) p q)
 
-pub runs_more :
-    (rs : List book.Row) (i : ℕ) (x : book.Row) (from at : ℕ) (u v w : List ℕ) → i < length rs → x ≡ get_or rs i x →
-    from + 4 * tally (pairs rs) ≤ length u → at ≡ from + 4 * tally (take i (pairs rs)) →
-    Put from (slot_run (all_slots (take i (pairs rs)))) u v → Put at (slot_run (pair_of x).1) v w → Put from (slot_run (all_slots (take (i + 1) (pairs rs)))) u w
-runs_more rs i x from at u v w l e room a p q =
-    let ps = pairs rs in
-    let xs = all_slots (take i ps) in
-    let n = length_slot_run xs in
-    let m = length_all_slots (take i ps) in
-    let b = length_slot_run (pair_of x).1 in
-    let t = tally_within rs i x l e in
-    let g : slot_run xs ++ slot_run (pair_of x).1 ≡ slot_run (all_slots (take (i + 1) ps)) =
-    sym (slot_run_append xs (pair_of x).1) ∙ ap slot_run (sym (all_slots_push (take i ps) (pair_of x)) ∙ ap all_slots (sym (pairs_more rs i x l e))) in
-    subst (λ (zs : List ℕ). Put from zs u w) g (put_then from at (slot_run xs) (slot_run (pair_of x).1) u v w (omega arith) (omega arith) p q)
+  pub runs_more :
+      (rs : List book.Row) (i : ℕ) (x : book.Row) → i < length rs → x ≡ get_or rs i x →
+      u.at + 4 * tally (pairs rs) ≤ length u.buffer.now →
+      Writes u v (slot_run (all_slots (take i (pairs rs)))) → Writes v w (slot_run (pair_of x).1) → Writes u w (slot_run (all_slots (take (i + 1) (pairs rs))))
+  runs_more rs i x l e room p q =
+      let ps = pairs rs in
+      let xs = all_slots (take i ps) in
+      let n = length_slot_run xs in
+      let m = length_all_slots (take i ps) in
+      let b = length_slot_run (pair_of x).1 in
+      let t = tally_within rs i x l e in
+      let g : slot_run xs ++ slot_run (pair_of x).1 ≡ slot_run (all_slots (take (i + 1) ps)) =
+      sym (slot_run_append xs (pair_of x).1) ∙ ap slot_run (sym (all_slots_push (take i ps) (pair_of x)) ∙ ap all_slots (sym (pairs_more rs i x l e))) in
+      subst (Writes u w) g (writes_then u v w (slot_run xs) (slot_run (pair_of x).1) (omega arith) p q)

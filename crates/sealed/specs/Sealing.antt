@@ -10,7 +10,9 @@
 --   outcome      what sealing answers: the size, or a refusal where the buffer is shorter
 --   Seals        that was answered, and the buffer is sealed, or as it was where it was refused
 --   number       the number by which a refusal is told
+--   refusal_text what is printed of it
 use Rattle.std.specs.Prelude.{◌≡◌, ℕ, ◌+◌, ◌*◌, ◌<◌, cond, List, length, take, drop, Ok, Err, Result, MatchResult, nat_lt, slice_index}
+use Rattle.extents.specs.Refusals.{refused}
 use Rattle.shift_logbook.specs.declared.book.Logbook.{Logbook}
 use Rattle.shift_logbook.specs.Books.{rows_of, lists_of}
 use Rattle.layout.specs.Layout.{Obeys}
@@ -39,3 +41,6 @@ pub record Seals (b : Logbook) (was out : List ℕ) (r : Result ℕ SealRefusal)
 
 abbrev pub number : SealRefusal → ℕ
 number BufferTooShort = 7
+
+abbrev pub refusal_text : SealRefusal → List ℕ
+refusal_text e = refused (number e)

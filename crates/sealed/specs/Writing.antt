@@ -12,11 +12,14 @@
 --   slot_run     a list of slots
 --   all_slots    the slots of a list of rows, row by row
 --   Put          a list was written at a place, and the rest is as it was
-use Rattle.std.specs.Prelude.{◌≡◌, ℕ, ◌+◌, ◌-◌, ◌/◌, ◌%◌, List, [], ◌∷◌, ◌++◌, map, length, take, drop, replicate, sum_by}
+--   HasRoom      a writer's buffer has room for so many bytes more
+--   Writes       a writer wrote a list where it stood, and stands right after it in the same buffer
+use Rattle.std.specs.Prelude.{◌≡◌, ℕ, ◌+◌, ◌-◌, ◌/◌, ◌%◌, ◌≤◌, List, [], ◌∷◌, ◌++◌, map, length, take, drop, replicate, sum_by}
 use Rattle.std.specs.List.{flat_map}
 use Rattle.shift_logbook.specs.declared.row.Row as book
 use Rattle.shift_logbook.specs.Rows.{name_of, slots_of}
 use Rattle.layout.specs.Meaning.{Row}
+use Rattle.sealed.specs.declared.writer.Writer.{Writer}
 
 unfoldable pub le2 : ℕ → List ℕ
 le2 v = v % 256 ∷ v / 256 % 256 ∷ []
@@ -54,3 +57,13 @@ all_slots rs = flat_map (λ r. r.1) rs
 
 abbrev pub Put : ℕ → List ℕ → List ℕ → List ℕ → Type 0
 Put at xs was out = out ≡ take at was ++ (xs ++ drop (at + length xs) was)
+
+-- the writer has room for n more bytes
+abbrev pub HasRoom : Writer → ℕ → Type 0
+HasRoom w n = w.at + n ≤ length w.buffer.now
+
+pub record Writes (w v : Writer) (xs : List ℕ) : Type 0 where
+  pub bytes : Put w.at xs w.buffer.now v.buffer.now
+  pub at : v.at ≡ w.at + length xs
+  pub same : v.buffer.ghost_name ≡ w.buffer.ghost_name
+  pub size : length v.buffer.now ≡ length w.buffer.now

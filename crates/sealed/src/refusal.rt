@@ -2,9 +2,13 @@
 ghost use Rattle.std.specs.Prelude.{◌≡◌};
 ghost use Rattle.sealed.specs.Sealing.{number};
 
+use std::error::Error;
+use std::fmt;
+
 #[derive(Clone, Copy, Debug, PartialEq, Eq)]
 pub enum SealRefusal {
-    BufferTooShort,
+    // A buffer with fewer bytes than the index.
+    BufferTooShort = 7,
 }
 
 impl SealRefusal {
@@ -12,8 +16,20 @@ impl SealRefusal {
     pub fn number(self) -> u8
         ensures { result ≡ number self }
     {
-        match self {
-            SealRefusal::BufferTooShort => 7,
-        }
+        self as u8
     }
 }
+
+// Stays: thiserror derives it without a contract, and no trait of refusals can give it to them all.
+impl fmt::Display for SealRefusal {
+    ghost use Rattle.std.specs.Prelude.{Some};
+    ghost use Rattle.sealed.specs.Sealing.{refusal_text};
+
+    ghost output = { λ e. Some (refusal_text e) };
+
+    fn fmt<W: fmt::Write>(&self, f: &mut fmt::Formatter<W>) -> fmt::Result {
+        write!(f, "refused {}", self.number())
+    }
+}
+
+impl Error for SealRefusal {}

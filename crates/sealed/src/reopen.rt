@@ -35,7 +35,8 @@ pub fn seal_both(
 ) -> (Result<usize, SealRefusal>, Result<usize, SealRefusal>)
     ensures first { Seals a.now left.old left.new result.0 }
     ensures second { Seals b.now right.old right.new result.1 }
-    ensures same { lists_of a.now ≡ lists_of b.now → is_ok result.0 ≡ true → is_ok result.1 ≡ true → take (index_size a.now) left.new ≡ take (index_size b.now) right.new }
+    ensures same { lists_of a.now ≡ lists_of b.now → is_ok result.0 ≡ true → is_ok result.1 ≡ true
+        → take (index_size a.now) left.new ≡ take (index_size b.now) right.new }
 {
     (seal(a, left), seal(b, right))
 }

@@ -1,6 +1,8 @@
-use Rattle.std.proofs.Common.{◌≡◌, true, ◌&&◌, length, drop, sym, ap, ◌∙◌}
+use Rattle.std.proofs.Common.{◌≡◌, ◌-◌, true, ◌&&◌, eqb, length, take, drop, sym, ap, ◌∙◌, rules, tests}
 use Rattle.std.proofs.lemmas.List.{take_rest}
 use Rattle.std.proofs.lemmas.Bool.{and_left}
+use Rattle.std.proofs.lemmas.Iterator.{YieldsList-from_slice}
+use Rattle.std.proofs.lemmas.Iterator.Search.{all_from_yields_List}
 use Rattle.postings.specs.Names.{is_name}
 use Rattle.layout.specs.Fields.{trim}
 use Rattle.layout.specs.Verdict.{name_stands, all_zero}
@@ -12,7 +14,9 @@ returns-then-is_name c =
     let f = c.args.field.now in
     let n = length c.trimmed-text.result.now in
     let e = c.trimmed-text.ensures.text in
-    let z : c.all_zero.result ≡ all_zero (drop (length (trim f)) f) = c.all_zero.ensures ∙ ap all_zero (take_rest f n) ∙ ap (λ t. all_zero (drop (length t) f)) e in
+    let rest = take (length f - n) (drop n f) in
+    let padded : c.all.result ≡ all_zero rest = all_from_yields_List (λ b. eqb b 0) _ _ c.all.result c.all.ensures.ran (YieldsList-from_slice rest cc) (λ x b q k. search (rules, tests)) in
+    let z : c.all.result ≡ all_zero (drop (length (trim f)) f) = padded ∙ ap all_zero (take_rest f n) ∙ ap (λ t. all_zero (drop (length t) f)) e in
     let t : true ≡ is_name (trim f) = c.if-is_name.ensures ∙ ap is_name e in
     z ∙ ap (λ b. b && all_zero (drop (length (trim f)) f)) t
 

@@ -1,29 +1,48 @@
-use Rattle.std.proofs.Common.{◌≡◌, ◌<◌, true, ◌&&◌, eqb, sym, ap, ◌∙◌, arith}
-use Rattle.std.proofs.lemmas.Bool.{and_left}
-use Rattle.layout.specs.Fields.{names, total}
-use Rattle.layout.specs.Layout.{counted}
-use Rattle.layout.specs.Verdict.{every_below, row_stands, rows_stand}
-use Rattle.layout.specs.Tests.{every_more, every_broken, counted_more}
+use Rattle.std.proofs.Common.{◌≡◌, [], true, get_or, ◌∙◌, subst, arith, rules}
+use Rattle.std.proofs.lemmas.Bool.{ne_eqb}
+use Rattle.std.proofs.lemmas.Fn.{always_returns_same}
+use Rattle.postings.specs.Names.{byte_order, before}
+use Rattle.layout.specs.Fields.{names}
+use Rattle.layout.proofs.Chunks.{called, length_rows_cut, row_read, length_slots_cut}
+use Rattle.layout.proofs.Checked.{RowsSoFar, rows_more, row_broken, rows_broken, rows_ordered, sorted_decides}
+use Rattle.layout.proofs.check.rows_stand.Goals.{then-not-name_stands-via-then-not-name_stands, then-not-name_stands-via-else-not-name_stands+then-row_earlier-sum, then-not-name_stands-via-else-not-name_stands+else-row_earlier-sum+then-row_count-eq0}
 use Rattle.layout.proofs.check.rows_stand.Goals as goal
 
-pub returns-then-not-row_stands : goal.returns-then-not-row_stands
-unfolding rows_stand
-returns-then-not-row_stands c =
-    let bs = c.args.bytes.now in
-    let l : c.loop-i.i < names bs = omega arith in
-    sym (and_left _ _ (every_broken (row_stands bs) (names bs) c.loop-i.i l (sym c.if-not-row_stands.ensures)))
+pub returns-then-not-name_stands : goal.returns-then-not-name_stands
+returns-then-not-name_stands c =
+    let p = c.args.parts.now in
+    let bs = p.head.bytes.now in
+    let i = c.loop-row.row-index in
+    row_broken bs i c.loop-row.sum (get_or p.rows.now i []) (row_read bs _ p.cut_rows i [] c.loop-row-test.true) c.loop-row.invariant (omega (arith, length_rows_cut bs p.rows.now p.cut_rows))
+    (λ named sums some.
+    elim c.then-not-name_stands.branch [
+      | then-not-name_stands-via-then-not-name_stands w ↦ cc
+      | then-not-name_stands-via-else-not-name_stands+then-row_earlier-sum w ↦ omega arith
+      | then-not-name_stands-via-else-not-name_stands+else-row_earlier-sum+then-row_count-eq0 w ↦ omega arith
+    ])
 
-pub loop-i-preserved : goal.loop-i-preserved
-loop-i-preserved c =
-    let bs = c.args.bytes.now in
-    let i = c.loop-i.i in
-    (every_more (row_stands bs) i c.loop-i.invariant.0 (sym c.if-not-row_stands.ensures), omega (arith, counted_more bs i), omega arith)
+pub loop-row-preserved : goal.loop-row-preserved
+loop-row-preserved c =
+    let p = c.args.parts.now in
+    let i = c.loop-row.row-index in
+    rw c.row_count-in-loop-row.ensures
+    (rows_more p.head.bytes.now i c.loop-row.sum (get_or p.rows.now i []) (row_read _ _ p.cut_rows i [] c.loop-row-test.true) c.loop-row.invariant (cc) (omega arith) (omega arith) (omega arith))
 
-pub returns : goal.returns
-unfolding rows_stand
-returns c =
-    let bs = c.args.bytes.now in
-    let n : c.loop-i.i ≡ names bs = omega arith in
-    let e : every_below (row_stands bs) (names bs) ≡ true = ap (every_below (row_stands bs)) (sym n) ∙ c.loop-i.invariant.0 in
-    let s : c.loop-i.sum ≡ counted bs (names bs) = c.loop-i.invariant.1 ∙ ap (counted bs) n in
-    ap (λ x. eqb x c.slot_count.result) s ∙ ap (λ x. eqb (counted bs (names bs)) x) c.slot_count.ensures ∙ ap (λ t. t && eqb (counted bs (names bs)) (total bs)) (sym e)
+pub returns-then-sum-parts : goal.returns-then-sum-parts
+unfolding byte_order before
+returns-then-sum-parts c =
+    let p = c.args.parts.now in
+    let bs = p.head.bytes.now in
+    let rows = p.rows.now in
+    let n : c.loop-row.row-index ≡ names bs = omega (arith, length_rows_cut bs rows p.cut_rows) in
+    rows_ordered bs rows p.cut_rows c.loop-row.sum (subst (λ i. RowsSoFar bs i c.loop-row.sum) n c.loop-row.invariant) (omega (arith, length_slots_cut bs p.slots.now p.cut_slots)) c.is_sorted_by.result
+    (sorted_decides (λ a b. before (called a) (called b)) (λ a b. before (called a) (called b) ≡ true) (λ a b. (λ h. h, λ h. h)) rows [] c.is_sorted_by.result
+    (c.is_sorted_by.ensures.cases (λ a b. before (called a) (called b)) (always_returns_same _ _ _ (λ a r f k. search rules))))
+
+pub returns-else-sum-parts : goal.returns-else-sum-parts
+returns-else-sum-parts c =
+    let p = c.args.parts.now in
+    let bs = p.head.bytes.now in
+    let n : c.loop-row.row-index ≡ names bs = omega (arith, length_rows_cut bs p.rows.now p.cut_rows) in
+    let so_far = subst (λ i. RowsSoFar bs i c.loop-row.sum) n c.loop-row.invariant in
+    ne_eqb _ _ c.if-sum-parts.false ∙ rows_broken bs (λ s. c.if-sum-parts.false (omega (arith, length_slots_cut bs p.slots.now p.cut_slots, s.all_counted, so_far.sum)))

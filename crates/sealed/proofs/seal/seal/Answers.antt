@@ -1,36 +1,29 @@
-use Rattle.std.proofs.Common.{◌≡◌, ◌+◌, ◌*◌, ◌≤◌, length, Ok, sym, ap, ◌∙◌, arith}
-use Rattle.std.proofs.lemmas.Bool.{cond-false, le-ltb}
+use Rattle.std.proofs.Common.{◌≤◌, length, ap, ◌∙◌, arith, rules}
+use Rattle.std.proofs.lemmas.List.{length-map}
 use Rattle.sealed.specs.Sealing.{index_size}
-use Rattle.sealed.specs.Writing.{pairs, tally}
-use Rattle.sealed.proofs.Books.{tally_book, index_written, sealed_from}
+use Rattle.sealed.specs.Writing.{pair_of, pairs, tally}
+use Rattle.sealed.proofs.Runs.{length_row_run, pairs_short}
+use Rattle.sealed.proofs.Books.{length_head, tally_book, index_written, seals_from}
 use Rattle.sealed.proofs.seal.seal.Goals as goal
 
-pub put_rows-requires : goal.put_rows-requires
-put_rows-requires c =
-    let b = c.args.book.now in
-    let n = ap (λ rs. tally (pairs rs)) c.rows-rows.ensures ∙ tally_book b in
-    record { room = omega arith; few = omega (arith, b.few) }
+pub put_rows-requires-clause-room : goal.put_rows-requires-clause-room
+put_rows-requires-clause-room c =
+    omega (arith, ap length c.new-writer.ensures.whole, ap length c.rows-rows.ensures, length_head (length c.rows-rows.result.now) c.length.result c.entries.result)
 
 pub put_slots-requires : goal.put_slots-requires
 put_slots-requires c =
-    let b = c.args.book.now in
-    let n = ap (λ rs. tally (pairs rs)) c.rows-rows.ensures ∙ tally_book b in
-    omega arith
+    let rows = c.rows-rows.result.now in
+    let count = ap (λ rs. tally (pairs rs)) c.rows-rows.ensures ∙ tally_book c.args.book.now in
+    omega (arith, ap length c.new-writer.ensures.whole, ap length c.rows-rows.ensures, length_head (length rows) c.length.result c.entries.result, length_row_run 0 (pairs rows) (pairs_short rows), length-map rows pair_of)
 
 pub returns : goal.returns
 returns c =
     let b = c.args.book.now in
-    let u = c.args.buffer.now in
-    let rs = c.rows-rows.result.now in
-    let e = c.rows-rows.ensures in
-    let n = ap length e in
-    let g = c.entries-entries.ensures in
-    let z : 15 + 24 * length rs + 4 * c.entries-entries.result ≡ index_size b = omega arith in
-    let room : index_size b ≤ length u = omega arith in
-    let p =
-    index_written b rs c.length.result c.entries-entries.result u c.put_head.new.buffer c.put_rows.new.buffer c.put_slots.new.buffer
-    e c.length.ensures g room (omega arith) c.put_head.ensures c.put_rows.ensures c.put_slots.ensures in
-    record {
-      says = ap Ok z ∙ sym (cond-false _ _ _ (le-ltb (length u) (index_size b) room));
-      written = sealed_from b u c.put_slots.new.buffer (λ i. omega (arith, c.type_inv.buffer i)) p;
-    }
+    let start = c.new-writer.result in
+    let end = c.put_slots.new.self in
+    let room : index_size b ≤ length c.args.buffer.now = omega (arith, c.index_size-size.ensures) in
+    let put =
+    index_written b c.rows-rows.result.now c.length.result c.entries.result start c.put_head.new.self c.put_rows.new.self end
+    c.rows-rows.ensures c.length.ensures c.entries.ensures c.new-writer.ensures.start (omega (arith, ap length c.new-writer.ensures.whole))
+    c.put_head.ensures c.put_rows.ensures c.put_slots.ensures in
+    seals_from b c.args.buffer.now _ c.index_size-size.result start end c.index_size-size.ensures room (λ i. omega (arith, c.type_inv.buffer i)) c.new-writer.ensures.whole (search rules) put

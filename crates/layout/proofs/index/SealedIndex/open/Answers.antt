@@ -1,17 +1,14 @@
-use Rattle.std.proofs.Common.{◌≡◌, is_ok, refl, ap, rules}
+use Rattle.std.proofs.Common.{◌≡◌, is_ok, ap, rules}
 use Rattle.std.proofs.lemmas.Bool.Decides.{Decides-at}
 use Rattle.layout.specs.Verdict.{verdict}
 use Rattle.layout.specs.Obeyed.{verdict_decides}
 use Rattle.layout.proofs.index.SealedIndex.open.Goals as goal
 
-pub returns-in_err-judge : goal.returns-in_err-judge
-returns-in_err-judge c =
+pub returns-in_err-judge-clause-exact : goal.returns-in_err-judge-clause-exact
+returns-in_err-judge-clause-exact c =
     let bs = c.args.bytes.now in
     let says : c.from_residual.result ≡ verdict bs = search rules in
-    record { says = says; exact = Decides-at (is_ok c.from_residual.result) (is_ok (verdict bs)) (ap is_ok says) (verdict_decides bs); holds = search rules }
+    Decides-at _ (is_ok (verdict bs)) (ap is_ok says) (verdict_decides bs)
 
-pub returns : goal.returns
-returns c =
-    let bs = c.args.bytes.now in
-    let says = c.in_ok-judge.ensures in
-    record { says = says; exact = Decides-at _ (is_ok (verdict bs)) (ap is_ok says) (verdict_decides bs); holds = refl }
+pub returns-clause-exact : goal.returns-clause-exact
+returns-clause-exact c = Decides-at _ (is_ok (verdict c.args.bytes.now)) (ap is_ok c.in_ok-judge.ensures) (verdict_decides c.args.bytes.now)
