@@ -1,21 +1,17 @@
 // Standard input, read line by line. What is read and printed is outside every contract.
-use super::buffer::LineBuffer;
 use super::command::{Command, parse};
+use super::lines::LineBuffer;
 use std::io;
 use std::io::Read;
 
-// A program's answer to each line's command; a line that is too long counts as one that is not known.
+// A program's answer to each line's command; a line that is too long counts as one that is no command.
 pub trait Session {
-    fn command(&mut self, rt: &HostRuntime, command: Command<'_>) -> io::Result<()>;
+    fn command(&mut self, rt: &HostRuntime, command: Option<Command<'_>>) -> io::Result<()>;
 }
 
 // Hands the gathered line over.
 fn end_line<S: Session>(rt: &HostRuntime, session: &mut S, line: &LineBuffer) -> io::Result<()> {
-    let command = match line.line() {
-        Some(bytes) => parse(bytes),
-        None => Command::Other,
-    };
-    session.command(rt, command)
+    session.command(rt, line.line().and_then(parse))
 }
 
 // Takes in a part of the input, with any line that ends in it.
@@ -40,6 +36,7 @@ fn take_in<S: Session>(
 pub fn run<S: Session>(rt: &HostRuntime, session: &mut S) -> io::Result<()> {
     let mut input = rt.stdin();
     let mut line = LineBuffer::new();
+    // Stays: the memory of a line is fixed, and `lines` and `read_until` gather one of any length.
     let mut part = [0u8; 4096];
     for _ in 0..u64::MAX {
         let n = input.read(&mut part)?;

@@ -1,7 +1,8 @@
 // What the programs share: lines of bounded length, and the commands that lines hold.
 #![tactic(auto)]
 
-pub mod buffer;
 pub mod command;
+pub mod ending;
 pub mod input;
 pub mod lines;
+pub mod telling;

@@ -3,10 +3,13 @@ ghost use Rattle.std.specs.Prelude.{◌≡◌, ℕ, List, [], ◌∷◌, ◌++�
 ghost use Rattle.std.specs.Option.{option_map};
 ghost use Rattle.console.specs.Lines.{Gathers, readable};
 
-use super::buffer::LineBuffer;
+use arrayvec::ArrayVec;
 
-// The most bytes of a line.
-const LINE_MAX: usize = 1_024;
+// The bytes of a line, or none where it has more than 1,024.
+#[derive(Debug, Drop)]
+pub struct LineBuffer {
+    bytes: Option<ArrayVec<u8, 1024>>,
+}
 
 impl LineBuffer {
     // A line without a byte.
@@ -14,9 +17,7 @@ impl LineBuffer {
         ensures { Gathers result [] }
     {
         LineBuffer {
-            bytes: [0; 1024],
-            len: 0,
-            over: false,
+            bytes: Some(ArrayVec::new()),
         }
     }
 
@@ -24,11 +25,10 @@ impl LineBuffer {
     pub fn push(&mut self, b: u8)
         ensures { (bs : List ℕ) → Gathers self.old bs → Gathers self.new (bs ++ b ∷ []) }
     {
-        if self.len == LINE_MAX {
-            self.over = true;
-        } else {
-            self.bytes[self.len] = b;
-            self.len += 1;
+        if let Some(bytes) = &mut self.bytes
+            && bytes.try_push(b).is_err()
+        {
+            self.bytes = None;
         }
     }
 
@@ -36,18 +36,13 @@ impl LineBuffer {
     pub fn line(&self) -> Option<&[u8]>
         ensures { (bs : List ℕ) → Gathers self.now bs → option_map (λ x. x.now) result ≡ readable bs }
     {
-        if self.over {
-            None
-        } else {
-            Some(&self.bytes[0..self.len])
-        }
+        self.bytes.as_ref().map(|bytes| bytes.as_slice())
     }
 
     // A new line, without a byte.
     pub fn clear(&mut self)
         ensures { Gathers self.new [] }
     {
-        self.len = 0;
-        self.over = false;
+        self.bytes = Some(ArrayVec::new());
     }
 }

@@ -1,5 +1,5 @@
 -- What the limits leave of a query that is read. Assumes nothing.
-use Rattle.std.proofs.Common.{◌≡◌, ℕ, ◌+◌, ◌*◌, ◌<◌, ◌≤◌, Bool, true, false, cond, eqb, ltb, leb, List, [], ◌∷◌, ◌++◌, length, get_or, take, drop, Ok, Err, Result, refl, ap, subst, ⊎_elim, one-add, arith, length-append}
+use Rattle.std.proofs.Common.{◌≡◌, ℕ, ◌+◌, ◌*◌, ◌<◌, ◌≤◌, Bool, true, false, cond, eqb, ltb, leb, List, [], ◌∷◌, ◌++◌, length, get_or, take, drop, Ok, Err, Result, sym, refl, ap, ◌∙◌, subst, arith, length-append}
 use Rattle.std.specs.List.{prefix_len, AllByRecursion}
 use Rattle.std.specs.Str.Parse.{digits_value}
 use Rattle.std.proofs.lemmas.List.{length-take-le}
@@ -7,17 +7,16 @@ use Rattle.std.proofs.lemmas.List.Sums.{prefix_len-drop_yes, prefix_len-le-lengt
 use Rattle.std.proofs.lemmas.Bool.{cond_both, leb-true, ltb-true}
 use Rattle.query.specs.declared.fault.TokenFault.{TokenFault}
 use Rattle.query.specs.declared.fault.TokenFault.TheVariants.{Unknown, Over}
-use Rattle.query.specs.declared.lexer.Begin.{Begin}
 use Rattle.extents.specs.declared.operator.Operator.TheVariants.{NotContainedIn, NotContaining}
-use Rattle.query.specs.declared.lexer.Begin.TheVariants.{Open, Close, One, Not, Windows, Runs, Name as NameBegin, Nothing}
 use Rattle.query.specs.Terminals.{Terminal, ident, hash, atsign, operator, opens, closes, ends, Placed}
 use Rattle.query.specs.Expressions.{Expr, name, windows, runs, apply, postfix, leaves}
 use Rattle.query.specs.Grammar.{Question, alone, joined, Term, named, windowed, traced, bracket}
 use Rattle.postings.specs.Names.{name_byte}
-use Rattle.query.specs.Scanning.{Scan, token, fault, digit, space, begin_of, name_at, amount_at, marked, not_at, scan_by, scan, Lexes, none, more}
+use Rattle.query.specs.Scanning.{Scan, token, fault, digit, space, name_at, amount_at, marked, not_at, scan_by, scan, Lexes, none, more}
 use Rattle.query.specs.Outcomes.{count, Reads}
 use Rattle.query.specs.Bounds.{Name, Ranged, Bounded}
-use Rattle.query.proofs.Reached.{count_append, cond_is}
+use Rattle.query.proofs.Reached.{count_append}
+use Rattle.query.proofs.Runs.{run_has}
 
 -- leaves and steps
 
@@ -62,18 +61,13 @@ abbrev RangedScan : Scan → Type 0
 RangedScan (token w at after) = RangedToken w
 RangedScan (fault f) = Unit {0}
 
-all_leading : (p : ℕ → Bool) (xs : List ℕ) → AllByRecursion (λ b. p b ≡ true) (take (prefix_len p xs) xs)
-all_leading p [] = tt
-all_leading p (x ∷ xs) =
-    cond_both (p x) (1 + prefix_len p xs) 0 (λ n. AllByRecursion (λ b. p b ≡ true) (take n (x ∷ xs))) (λ h. rw (one-add (prefix_len p xs)) (h, all_leading p xs)) (λ h. tt)
-
 name_ranged : (bs : List ℕ) (at : ℕ) → at < length bs → name_byte (get_or bs at 0) ≡ true → RangedScan (name_at (drop at bs) at)
 name_ranged bs at h is =
     let run = prefix_len name_byte (drop at bs) in
     let first = prefix_len-drop_yes name_byte bs at 0 h is in
     let long = length-take-le run (drop at bs) (prefix_len-le-length name_byte (drop at bs)) in
     cond_both (leb run 16) (token (ident (take run (drop at bs))) at (at + run)) (fault (Over at)) RangedScan
-    (λ k. record { some = omega (arith, first, long); short = omega (arith, leb-true run 16 k, long); spelt = all_leading name_byte (drop at bs) })
+    (λ k. record { some = omega (arith, first, long); short = omega (arith, leb-true run 16 k, long); spelt = run_has name_byte (AllByRecursion (λ b. name_byte b ≡ true)) tt (λ x xs h k. (h, k)) (drop at bs) })
     (λ k. tt)
 
 module _ (w : ℕ → Terminal) (limit : ℕ) (fits : (n : ℕ) → n ≤ limit → RangedToken (w n)) where
@@ -92,42 +86,24 @@ not_ranged bs at =
     (λ h. tt)
     (λ h. cond_both (eqb (get_or bs (at + 1) 0) 62) (token (operator NotContaining) at (at + 2)) (fault (Unknown at)) RangedScan (λ k. tt) (λ k. tt))
 
-begin_ranged : (bs : List ℕ) (at : ℕ) → at < length bs → (k : Begin) → (k ≡ NameBegin → name_byte (get_or bs at 0) ≡ true) → RangedScan (scan_by k bs at)
-begin_ranged bs at h Open is = tt
-begin_ranged bs at h Close is = tt
-begin_ranged bs at h (One o) is = tt
-begin_ranged bs at h Not is = not_ranged bs at
-begin_ranged bs at h Windows is = marked_ranged hash 1073741824 (λ n k. k) (drop (at + 1) bs) at
-begin_ranged bs at h Runs is = marked_ranged atsign 3000 (λ n k. k) (drop (at + 1) bs) at
-begin_ranged bs at h NameBegin is = name_ranged bs at h (is refl)
-begin_ranged bs at h Nothing is = tt
+-- one byte that begins a token, and what else may
+one_ranged : (b : Bool) (x y : Scan) → RangedScan x → (b ≡ false → RangedScan y) → RangedScan (cond b x y)
+one_ranged b x y first rest = cond_both b x y RangedScan (λ h. first) rest
 
--- of the classes that begin a token only one is a name
-abbrev tag : Begin → ℕ
-tag Open = 0
-tag Close = 0
-tag (One o) = 0
-tag Not = 0
-tag Windows = 0
-tag Runs = 0
-tag NameBegin = 1
-tag Nothing = 0
-
-skip : (b : Bool) (x y : Begin) → tag x ≡ 0 → cond b x y ≡ NameBegin → y ≡ NameBegin
-skip true x y z e = absurd (omega (arith, z, ap tag e))
-skip false x y z e = e
-
-name_begin : (b : ℕ) → begin_of b ≡ NameBegin → name_byte b ≡ true
-name_begin b e =
-    let last = skip (eqb b 64) _ _ refl (skip (eqb b 35) _ _ refl (skip (eqb b 33) _ _ refl (skip (eqb b 59) _ _ refl (skip (eqb b 124) _ _ refl (skip (eqb b 38) _ _ refl (skip (eqb b 62) _ _ refl (skip (eqb b 60) _ _ refl (skip (eqb b 41) _ _ refl (skip (eqb b 40) _ _ refl e))))))))) in
-    ⊎_elim (λ h. h.0) (λ h. absurd (omega (arith, ap tag h.1))) (cond_is (name_byte b) NameBegin Nothing NameBegin last)
+by_ranged : (b : ℕ) (bs : List ℕ) (at : ℕ) → at < length bs → b ≡ get_or bs at 0 → RangedScan (scan_by b bs at)
+by_ranged b bs at h is =
+    one_ranged (eqb b 40) _ _ tt (λ a. one_ranged (eqb b 41) _ _ tt (λ a. one_ranged (eqb b 60) _ _ tt (λ a. one_ranged (eqb b 62) _ _ tt (λ a. one_ranged (eqb b 38) _ _ tt (λ a.
+    one_ranged (eqb b 124) _ _ tt (λ a. one_ranged (eqb b 59) _ _ tt (λ a. one_ranged (eqb b 33) _ _ (not_ranged bs at) (λ a.
+    one_ranged (eqb b 35) _ _ (marked_ranged hash 1073741824 (λ n k. k) (drop (at + 1) bs) at) (λ a.
+    one_ranged (eqb b 64) _ _ (marked_ranged atsign 3000 (λ n k. k) (drop (at + 1) bs) at) (λ a.
+    cond_both (name_byte b) (name_at (drop at bs) at) (fault (Unknown at)) RangedScan (λ k. name_ranged bs at h (ap name_byte (sym is) ∙ k)) (λ k. tt)))))))))))
 
 scan_ranged : (bs : List ℕ) (p : ℕ) → RangedScan (scan bs p)
 unfolding scan
 scan_ranged bs p =
     let at = p + prefix_len space (drop p bs) in
-    cond_both (ltb at (length bs)) (scan_by (begin_of (get_or bs at 0)) bs at) (token ends at at) RangedScan
-    (λ h. begin_ranged bs at (ltb-true at (length bs) h) (begin_of (get_or bs at 0)) (name_begin (get_or bs at 0)))
+    cond_both (ltb at (length bs)) (scan_by (get_or bs at 0) bs at) (token ends at at) RangedScan
+    (λ h. by_ranged (get_or bs at 0) bs at (ltb-true at (length bs) h) refl)
     (λ h. tt)
 
 abbrev AllRanged : List Placed → Type 0

@@ -1,5 +1,5 @@
 -- The machine stops at the leftmost fault, and at no other place. Assumes nothing.
-use Rattle.std.proofs.Common.{◌≡◌, ℕ, ◌+◌, ◌-◌, ◌≤◌, eqb, ◌⊎◌, List, [], ◌∷◌, sym, refl, ap, ◌∙◌, subst, inl, inr, ⊎_elim, arith}
+use Rattle.std.proofs.Common.{ltb, ◌≡◌, ℕ, ◌+◌, ◌-◌, ◌≤◌, eqb, ◌⊎◌, List, [], ◌∷◌, sym, refl, ap, ◌∙◌, subst, inl, inr, ⊎_elim, arith}
 use Rattle.std.proofs.lemmas.Bool.{cond-true, cond-false, lt-ltb, le-ltb, eq-eqb, ne_eqb, ltb-false, eqb-false, cases_lt}
 use Rattle.query.specs.declared.fault.ReadFault.{ReadFault}
 use Rattle.query.specs.declared.fault.ReadFault.TheVariants.{Unexpected, TooDeep, TooMany}
@@ -9,10 +9,10 @@ use Rattle.query.specs.Grammar.{Question, named, windowed, traced}
 use Rattle.query.specs.Scanning.{Scan, token, fault, scan, Lexes, none, more}
 use Rattle.query.specs.Outcomes.{weigh, count, open_by, opened, Enters, Shallow, Follows, FaultAfter, ill_formed, misplaced, over_deep, over_many, Reads, Refuses}
 use Rattle.query.specs.Machine.{State, before_term, after_term, Turn, on, accepts, stops, meet, turn, turn_by, Walks, here, step, Fails}
-use Rattle.query.proofs.Walk.{leaf_on, leaf_many}
+use Rattle.query.proofs.Leaves.{leaf_facts, leaf_on, leaf_many}
 use Rattle.query.proofs.Shapes.{before, after as ahead, stuck, move, run, run_stuck, after_stuck, question_runs, begins_unstuck, Wrong, wrong_follows}
 use Rattle.query.proofs.Beginnings.{by_term, by_operator, by_open, by_close, standing_begins, pending_begins, standing_whole}
-use Rattle.query.proofs.Reached.{shape, leaves_of, depth_of, Stands, Reached, reached_none, reached_faultless, reached_walk, leaf_facts, Moves, by_leaf, by_sign, opening, closing, cond_is, positive}
+use Rattle.query.proofs.Reached.{shape, leaves_of, depth_of, Stands, Reached, reached_none, reached_faultless, reached_walk, Moves, by_leaf, by_sign, opening, closing, cond_cases, positive}
 
 enter_low : (w : Terminal) (d : ℕ) → d ≤ 16 → Enters w d → open_by w d ≤ 16
 enter_low (ident s) d h e = h
@@ -27,26 +27,20 @@ shallow_low : (ts : List Placed) (d : ℕ) → d ≤ 16 → Shallow ts d → ope
 shallow_low [] d h s = h
 shallow_low (t ∷ ts) d h s = shallow_low ts (open_by t.0 d) (enter_low t.0 d h s.0) s.1
 
-same_stop : {f g : ReadFault} → ◌≡◌ {A = Turn} (stops f) (stops g) → f ≡ g
-same_stop e = cc
-
-on_no_stop : {w : Terminal} {at after : ℕ} {t : State} {f : ReadFault} {A : Type 0} → ◌≡◌ {A = Turn} (on w at after t) (stops f) → A
-on_no_stop e = let z : ◌≡◌ {A = ℕ} 0 1 = cc in absurd (omega arith)
-
-accepts_no_stop : {f : ReadFault} {A : Type 0} → ◌≡◌ {A = Turn} accepts (stops f) → A
-accepts_no_stop e = let z : ◌≡◌ {A = ℕ} 0 1 = cc in absurd (omega arith)
-
 before_after : (d e : ℕ) → before d ≡ ahead e → ⊥
-before_after d e p = let z : ◌≡◌ {A = ℕ} 0 1 = cc in omega arith
+before_after d e p = cc
 
 before_stuck : (d : ℕ) → before d ≡ stuck → ⊥
-before_stuck d p = let z : ◌≡◌ {A = ℕ} 0 1 = cc in omega arith
+before_stuck d p = cc
 
 same_depth : (d e : ℕ) → ahead d ≡ ahead e → d ≡ e
 same_depth d e p = cc
 
 -- where the machine stops, the token has that fault
 module _ {bs : List ℕ} {p : ℕ} {done : List Placed} where
+  stop_is : {f g : ReadFault} → ◌≡◌ {A = Turn} (stops f) (stops g) → FaultAfter bs done p f → FaultAfter bs done p g
+  stop_is {f} {g} e = let same : f ≡ g = cc in subst (FaultAfter bs done p) same
+
   misplaced_at : {s : State} {w : Terminal} {at after : ℕ} → Reached bs p s done → scan bs p ≡ token w at after → Wrong (shape s) w → FaultAfter bs done p (Unexpected at)
   misplaced_at {w = w} {at = at} r met wrong = misplaced met (λ f. wrong_follows done w at (subst (λ x. Wrong x w) (sym r.runs) wrong) f)
 
@@ -61,41 +55,38 @@ module _ {bs : List ℕ} {p : ℕ} {done : List Placed} where
   leaf_halts : {d n : ℕ} {w : Terminal} {at after : ℕ} {f : ReadFault} → Reached bs p (before_term d n) done → Leaf w → scan bs p ≡ token w at after → meet (before_term d n) w at after ≡ stops f → FaultAfter bs done p f
   leaf_halts {d} {n} {w} {at} {after} {f} r l met e =
       ⊎_elim
-      (λ h. on_no_stop (sym (leaf_on d n at after w l h) ∙ e))
-      (λ h. subst (FaultAfter bs done p) (same_stop (sym (leaf_many d n at after w l h) ∙ e)) (many_at r met l h))
+      (λ h. let z = leaf_on d n at after w l h in cc)
+      (λ h. stop_is (sym (leaf_many d n at after w l h) ∙ e) (many_at r met l h))
       (cases_lt n 32)
 
   halts : {at after : ℕ} {f : ReadFault} (s : State) (w : Terminal) → Reached bs p s done → scan bs p ≡ token w at after → meet s w at after ≡ stops f → FaultAfter bs done p f
   halts (before_term d n) (ident x) r met e = leaf_halts r tt met e
   halts (before_term d n) (hash v) r met e = leaf_halts r tt met e
   halts (before_term d n) (atsign v) r met e = leaf_halts r tt met e
-  halts (before_term d n) (operator o) r met e = subst (FaultAfter bs done p) (same_stop e) (misplaced_at r met refl)
+  halts (before_term d n) (operator o) r met e = stop_is e (misplaced_at r met refl)
   halts (before_term d n) opens r met e =
-      ⊎_elim
-      (λ h. on_no_stop h.1)
-      (λ h. subst (FaultAfter bs done p) (same_stop h.1) (deep_at r met (ltb-false d 16 h.0)))
-      (cond_is _ _ _ _ e)
-  halts (before_term d n) closes r met e = subst (FaultAfter bs done p) (same_stop e) (misplaced_at r met refl)
-  halts (before_term d n) ends r met e = subst (FaultAfter bs done p) (same_stop e) (misplaced_at r met (before_after d 0))
-  halts (after_term d n) (ident x) r met e = subst (FaultAfter bs done p) (same_stop e) (misplaced_at r met refl)
-  halts (after_term d n) (hash v) r met e = subst (FaultAfter bs done p) (same_stop e) (misplaced_at r met refl)
-  halts (after_term d n) (atsign v) r met e = subst (FaultAfter bs done p) (same_stop e) (misplaced_at r met refl)
-  halts (after_term d n) (operator o) r met e = on_no_stop e
-  halts (after_term d n) opens r met e = subst (FaultAfter bs done p) (same_stop e) (misplaced_at r met refl)
+      cond_cases (ltb d 16) _ _ e
+      (λ is h. cc)
+      (λ is h. stop_is h (deep_at r met (ltb-false d 16 is)))
+  halts (before_term d n) closes r met e = stop_is e (misplaced_at r met refl)
+  halts (before_term d n) ends r met e = stop_is e (misplaced_at r met (before_after d 0))
+  halts (after_term d n) (ident x) r met e = stop_is e (misplaced_at r met refl)
+  halts (after_term d n) (hash v) r met e = stop_is e (misplaced_at r met refl)
+  halts (after_term d n) (atsign v) r met e = stop_is e (misplaced_at r met refl)
+  halts (after_term d n) (operator o) r met e = cc
+  halts (after_term d n) opens r met e = stop_is e (misplaced_at r met refl)
   halts (after_term d n) closes r met e =
-      ⊎_elim
-      (λ h. subst (FaultAfter bs done p) (same_stop h.1) (misplaced_at r met (cond-true _ _ _ h.0)))
-      (λ h. on_no_stop h.1)
-      (cond_is _ _ _ _ e)
+      cond_cases (eqb d 0) _ _ e
+      (λ is h. stop_is h (misplaced_at r met (cond-true _ _ _ is)))
+      (λ is h. cc)
   halts (after_term d n) ends r met e =
-      ⊎_elim
-      (λ h. accepts_no_stop h.1)
-      (λ h. subst (FaultAfter bs done p) (same_stop h.1) (misplaced_at r met (λ x. eqb-false d 0 h.0 (same_depth d 0 x))))
-      (cond_is _ _ _ _ e)
+      cond_cases (eqb d 0) _ _ e
+      (λ is h. cc)
+      (λ is h. stop_is h (misplaced_at r met (λ x. eqb-false d 0 is (same_depth d 0 x))))
 
   halted : {f : ReadFault} (s : State) (l : Scan) → Reached bs p s done → scan bs p ≡ l → turn_by l s ≡ stops f → FaultAfter bs done p f
   halted s (token w at after) r met e = halts s w r met e
-  halted s (fault d) r met e = subst (FaultAfter bs done p) (same_stop e) (ill_formed met)
+  halted s (fault d) r met e = stop_is e (ill_formed met)
 
 pub fails_refuses : {bs : List ℕ} {f : ReadFault} → Fails bs 0 (before_term 0 0) f → Refuses bs f
 fails_refuses {bs} x =
@@ -177,23 +168,14 @@ wrong_stops (after_term d n) (hash v) at after e = refl
 wrong_stops (after_term d n) (atsign v) at after e = refl
 wrong_stops (after_term d n) (operator o) at after e = absurd (before_stuck d e)
 wrong_stops (after_term d n) opens at after e = refl
-wrong_stops (after_term d n) closes at after e = ⊎_elim (λ h. cond-true _ _ _ h.0) (λ h. absurd (after_stuck (d - 1) h.1)) (cond_is (eqb d 0) stuck (ahead (d - 1)) stuck e)
+wrong_stops (after_term d n) closes at after e = cond_cases (eqb d 0) _ _ e (λ is h. cond-true _ _ _ is) (λ is h. absurd (after_stuck (d - 1) h))
 wrong_stops (after_term d n) ends at after e = cond-false _ _ _ (ne_eqb d 0 (λ z. e (ap (λ k. ahead k) z)))
-
-leaf_wrong : (d : ℕ) (w : Terminal) → Leaf w → Wrong (ahead d) w
-leaf_wrong d (ident x) l = refl
-leaf_wrong d (hash v) l = refl
-leaf_wrong d (atsign v) l = refl
-leaf_wrong d (operator o) l = absurd l
-leaf_wrong d opens l = absurd l
-leaf_wrong d closes l = absurd l
-leaf_wrong d ends l = absurd l
 
 -- a token with a fault stops the machine
 module _ {bs : List ℕ} {p : ℕ} {done : List Placed} where
   many_stops : (w : Terminal) (s : State) (at after : ℕ) → Reached bs p s done → Leaf w → Follows done w at → count done ≡ 32 → meet s w at after ≡ stops (TooMany at)
   many_stops w (before_term d n) at after r l f c = leaf_many d n at after w l (omega (arith, r.counted))
-  many_stops w (after_term d n) at after r l f c = absurd (wrong_follows done w at (subst (λ x. Wrong x w) (sym r.runs) (leaf_wrong d w l)) f)
+  many_stops w (after_term d n) at after r l f c = absurd (wrong_follows done w at (subst (λ x. Wrong x w) (sym r.runs) ((leaf_facts w at l).wrong d)) f)
 
   deep_stops : (s : State) (at after : ℕ) → Reached bs p s done → Follows done opens at → opened done 0 ≡ 16 → meet s opens at after ≡ stops (TooDeep at)
   deep_stops (before_term d n) at after r f c = cond-false _ _ _ (le-ltb d 16 (omega (arith, r.deep)))

@@ -1,10 +1,10 @@
 pub mod Beginnings
 pub mod Bounds
+pub mod Leaves
 pub mod Leftmost
 pub mod Once
 pub mod Reached
 pub mod Runs
 pub mod Shapes
-pub mod Stored
 pub mod Unambiguous
 pub mod Walk

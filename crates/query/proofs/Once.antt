@@ -1,5 +1,5 @@
 -- Why a text has one outcome. Assumes nothing.
-use Rattle.std.proofs.Common.{◌≡◌, ℕ, List, sym, refl, ap, ◌∙◌, subst, arith}
+use Rattle.std.proofs.Common.{◌≡◌, ℕ, List, sym, refl, ap, ◌∙◌, subst}
 use Rattle.query.specs.declared.fault.ReadFault.{ReadFault}
 use Rattle.query.specs.Terminals.{Terminal, Placed}
 use Rattle.query.specs.Expressions.{Expr}
@@ -59,8 +59,7 @@ module _ {bs : List ℕ} where
       let w = one_walk a.walked b.walked (last_accepts a.ended) (last_stops b.halted) in
       let same : turn bs x.stop a.state ≡ turn bs b.stop b.state = (λ i. turn bs (w.place i) (w.state i)) in
       let both : ◌≡◌ {A = Turn} accepts (stops f) = sym a.ended ∙ same ∙ b.halted in
-      let z : ◌≡◌ {A = ℕ} 0 1 = cc in
-      omega arith
+      cc
 
   pub refuses_once : {f g : ReadFault} → Refuses bs f → Refuses bs g → f ≡ g
   refuses_once {f} {g} x y =

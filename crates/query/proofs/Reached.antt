@@ -1,15 +1,14 @@
 -- What the reader's machine has taken, in the words of the grammar and the limits. Assumes nothing.
-use Rattle.std.proofs.Common.{◌≡◌, ℕ, ◌+◌, ◌-◌, ◌<◌, ◌≤◌, Bool, true, false, cond, ltb, ◌⊎◌, List, [], ◌∷◌, ◌++◌, sym, refl, ap, ◌∙◌, subst, inl, inr, ⊎_elim, append_assoc, append-nil, add_assoc, zero-add, arith}
+use Rattle.std.proofs.Common.{eqb, ◌≡◌, ℕ, ◌+◌, ◌-◌, ◌<◌, ◌≤◌, Bool, true, false, cond, ltb, List, [], ◌∷◌, ◌++◌, sym, refl, ap, ◌∙◌, subst, ⊎_elim, append_assoc, append-nil, add_assoc, zero-add, arith}
 use Rattle.std.proofs.lemmas.Bool.{cond-false, ne_eqb, ltb-true, eqb-false, cases_lt}
-use Rattle.query.specs.declared.fault.ReadFault.{ReadFault}
 use Rattle.query.specs.declared.fault.ReadFault.TheVariants.{TooMany}
 use Rattle.extents.specs.declared.operator.Operator.{Operator}
 use Rattle.query.specs.Terminals.{Terminal, ident, hash, atsign, operator, opens, closes, ends, Placed, Leaf}
-use Rattle.query.specs.Expressions.{Expr}
-use Rattle.query.specs.Grammar.{Term, named, windowed, traced, Beginning}
+use Rattle.query.specs.Grammar.{Beginning}
 use Rattle.query.specs.Scanning.{token, scan, Lexes, none, more}
-use Rattle.query.specs.Outcomes.{weigh, count, open_by, opened, Enters, Shallow, Faultless, Follows}
-use Rattle.query.specs.Machine.{State, before_term, after_term, Turn, on, accepts, stops, meet, Walks, here, step}
+use Rattle.query.specs.Outcomes.{weigh, count, open_by, opened, Shallow, Faultless}
+use Rattle.query.specs.Machine.{State, before_term, after_term, Turn, on, stops, meet, Walks, here, step}
+use Rattle.query.proofs.Leaves.{leaf_facts}
 use Rattle.query.proofs.Shapes.{Shape, before, after, move, run, run_append}
 use Rattle.query.proofs.Beginnings.{Pending, Standing, nothing_yet, by_term, by_operator, by_open, by_close, standing_begins, pending_begins}
 
@@ -69,26 +68,6 @@ stands_begins ts (after_term d n) p = standing_begins p
 pub reached_faultless : {bs : List ℕ} {p : ℕ} {s : State} {done : List Placed} → Reached bs p s done → Faultless done
 reached_faultless {s = s} {done} r = record { begins = stands_begins done s r.stands; few = r.few; shallow = r.shallow }
 
--- a leaf
-
-pub record LeafFacts (w : Terminal) (at : ℕ) : Type 0 where
-  pub weighs : weigh w ≡ 1
-  pub level : (d : ℕ) → open_by w d ≡ d
-  pub enters : (d : ℕ) → Enters w d
-  pub moves : (d : ℕ) → move (before d) w ≡ after d
-  pub expr : Expr
-  pub parsed : Term ((w, at) ∷ []) expr
-  pub follows : (ts : List Placed) → Beginning (ts ++ (w, at) ∷ []) → Follows ts w at
-
-pub leaf_facts : (w : Terminal) (at : ℕ) → Leaf w → LeafFacts w at
-leaf_facts (ident s) at l = record { weighs = refl; level = λ d. refl; enters = λ d. tt; moves = λ d. refl; expr = _; parsed = named s at; follows = λ ts b. b }
-leaf_facts (hash n) at l = record { weighs = refl; level = λ d. refl; enters = λ d. tt; moves = λ d. refl; expr = _; parsed = windowed n at; follows = λ ts b. b }
-leaf_facts (atsign n) at l = record { weighs = refl; level = λ d. refl; enters = λ d. tt; moves = λ d. refl; expr = _; parsed = traced n at; follows = λ ts b. b }
-leaf_facts (operator o) at l = absurd l
-leaf_facts opens at l = absurd l
-leaf_facts closes at l = absurd l
-leaf_facts ends at l = absurd l
-
 -- the machine's moves, one by one
 
 pub data Moves : State → Terminal → State → Type 0 where
@@ -97,20 +76,13 @@ pub data Moves : State → Terminal → State → Type 0 where
   opening : {d n : ℕ} → d < 16 → Moves (before_term d n) opens (before_term (d + 1) n)
   closing : {d n : ℕ} → 0 < d → Moves (after_term d n) closes (after_term (d - 1) n)
 
-module _ {X : Type 0} where
-  pub cond_is : (b : Bool) (x y z : X) → cond b x y ≡ z → ((b ≡ true) × (x ≡ z)) ⊎ ((b ≡ false) × (y ≡ z))
-  cond_is true x y z e = inl (refl, e)
-  cond_is false x y z e = inr (refl, e)
+-- which of the two a test has answered
+pub cond_cases : {X A : Type 0} (b : Bool) (x y : X) {z : X} → cond b x y ≡ z → (b ≡ true → x ≡ z → A) → (b ≡ false → y ≡ z → A) → A
+cond_cases true x y e f g = f refl e
+cond_cases false x y e f g = g refl e
 
 pub positive : (d : ℕ) → (d ≡ 0 → ⊥) → 0 < d
 positive d ne = ⊎_elim (λ h. h) (λ h. absurd (ne (omega arith))) (cases_lt 0 d)
-
--- a turn that goes on is no stop
-on_stops : {w : Terminal} {at after : ℕ} {t : State} {f : ReadFault} {A : Type 0} → ◌≡◌ {A = Turn} (stops f) (on w at after t) → A
-on_stops e = let z : ◌≡◌ {A = ℕ} 0 1 = cc in absurd (omega arith)
-
-on_accepts : {w : Terminal} {at after : ℕ} {t : State} {A : Type 0} → ◌≡◌ {A = Turn} accepts (on w at after t) → A
-on_accepts e = let z : ◌≡◌ {A = ℕ} 0 1 = cc in absurd (omega arith)
 
 same_state : {w v : Terminal} {at at' after after' : ℕ} {s t : State} → ◌≡◌ {A = Turn} (on w at after s) (on v at' after' t) → s ≡ t
 same_state e = cc
@@ -118,38 +90,34 @@ same_state e = cc
 module _ {at after : ℕ} {t : State} (d n : ℕ) where
   on_leaf : (w : Terminal) → Leaf w → cond (ltb n 32) (on w at after (after_term d (n + 1))) (stops (TooMany at)) ≡ on w at after t → Moves (before_term d n) w t
   on_leaf w l e =
-      ⊎_elim
-      (λ h. subst (Moves (before_term d n) w) (same_state h.1) (by_leaf l (ltb-true n 32 h.0)))
-      (λ h. on_stops h.1)
-      (cond_is _ _ _ _ e)
+      cond_cases (ltb n 32) _ _ e
+      (λ is h. subst (Moves (before_term d n) w) (same_state h) (by_leaf l (ltb-true n 32 is)))
+      (λ is h. cc)
 
 pub on_moves : {at after : ℕ} {t : State} (s : State) (w : Terminal) → meet s w at after ≡ on w at after t → Moves s w t
 on_moves (before_term d n) (ident s) e = on_leaf d n (ident s) tt e
 on_moves (before_term d n) (hash v) e = on_leaf d n (hash v) tt e
 on_moves (before_term d n) (atsign v) e = on_leaf d n (atsign v) tt e
-on_moves (before_term d n) (operator o) e = on_stops e
+on_moves (before_term d n) (operator o) e = cc
 on_moves (before_term d n) opens e =
-    ⊎_elim
-    (λ h. subst (Moves (before_term d n) opens) (same_state h.1) (opening (ltb-true d 16 h.0)))
-    (λ h. on_stops h.1)
-    (cond_is _ _ _ _ e)
-on_moves (before_term d n) closes e = on_stops e
-on_moves (before_term d n) ends e = on_stops e
-on_moves (after_term d n) (ident s) e = on_stops e
-on_moves (after_term d n) (hash v) e = on_stops e
-on_moves (after_term d n) (atsign v) e = on_stops e
+    cond_cases (ltb d 16) _ _ e
+    (λ is h. subst (Moves (before_term d n) opens) (same_state h) (opening (ltb-true d 16 is)))
+    (λ is h. cc)
+on_moves (before_term d n) closes e = cc
+on_moves (before_term d n) ends e = cc
+on_moves (after_term d n) (ident s) e = cc
+on_moves (after_term d n) (hash v) e = cc
+on_moves (after_term d n) (atsign v) e = cc
 on_moves (after_term d n) (operator o) e = subst (Moves (after_term d n) (operator o)) (same_state e) (by_sign o)
-on_moves (after_term d n) opens e = on_stops e
+on_moves (after_term d n) opens e = cc
 on_moves (after_term d n) closes e =
-    ⊎_elim
-    (λ h. on_stops h.1)
-    (λ h. let ne = eqb-false d 0 h.0 in subst (Moves (after_term d n) closes) (same_state h.1) (closing (positive d ne)))
-    (cond_is _ _ _ _ e)
+    cond_cases (eqb d 0) _ _ e
+    (λ is h. cc)
+    (λ is h. let ne = eqb-false d 0 is in subst (Moves (after_term d n) closes) (same_state h) (closing (positive d ne)))
 on_moves (after_term d n) ends e =
-    ⊎_elim
-    (λ h. on_accepts h.1)
-    (λ h. on_stops h.1)
-    (cond_is _ _ _ _ e)
+    cond_cases (eqb d 0) _ _ e
+    (λ is h. cc)
+    (λ is h. cc)
 
 -- one more token
 reached_one : {bs : List ℕ} {p at after : ℕ} {s t : State} {w : Terminal} {done : List Placed} → Reached bs p s done → scan bs p ≡ token w at after → Moves s w t → Reached bs after t (done ++ (w, at) ∷ [])

@@ -42,7 +42,7 @@ run_stuck [] = refl
 run_stuck (t ∷ ts) = run_stuck ts
 
 pub after_stuck : (d : ℕ) → after d ≡ stuck → ⊥
-after_stuck d e = let z : ◌≡◌ {A = ℕ} 0 1 = cc in omega arith
+after_stuck d e = cc
 
 -- from a bracketed question out again
 pub close_one : (d : ℕ) → move (after (d + 1)) closes ≡ after d

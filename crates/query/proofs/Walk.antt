@@ -1,6 +1,7 @@
 -- How the parts of a reading join. Assumes nothing.
 use Rattle.std.proofs.Common.{◌≡◌, ℕ, ◌+◌, ◌-◌, ◌*◌, ◌<◌, ◌≤◌, false, eqb, List, [], ◌∷◌, ◌++◌, length, sym, refl, ap, ◌∙◌, subst, append_assoc, append-nil, arith, Bor}
 use Rattle.std.proofs.lemmas.Bool.{cond-true, cond-false, lt-ltb, le-ltb, ne_eqb}
+use Rattle.arrayvec.specs.ArrayVec.{array_vec_len}
 use Rattle.extents.specs.declared.operator.Operator.{Operator}
 use Rattle.query.specs.declared.fault.TokenFault.{TokenFault}
 use Rattle.query.specs.declared.fault.ReadFault.{ReadFault}
@@ -9,13 +10,14 @@ use Rattle.query.specs.declared.token.Located.{Located}
 use Rattle.query.specs.declared.token.Token.{Token as Token·}
 use Rattle.query.specs.declared.token.Token.TheVariants as code
 use Rattle.query.specs.declared.reader.Reader.{Reader}
-use Rattle.query.specs.Terminals.{Terminal, ident, hash, atsign, operator, opens, closes, ends, Placed, Leaf}
-use Rattle.query.specs.Expressions.{Expr, name, windows, runs, apply, postfix}
-use Rattle.query.specs.Grammar.{Question, alone, joined, Term, named, windowed, traced, bracket}
+use Rattle.query.specs.Terminals.{Terminal, operator, opens, closes, Placed, Leaf}
+use Rattle.query.specs.Expressions.{Expr, apply, postfix}
+use Rattle.query.specs.Grammar.{Question, alone, joined, bracket}
 use Rattle.query.specs.Scanning.{scan, token, fault}
 use Rattle.query.specs.Queries.{steps}
-use Rattle.query.specs.Machine.{State, before_term, after_term, on, stops, meet, turn_by, Walks, here, step, Fails}
-use Rattle.query.specs.Reading.{bytes, written, terminal, NotOperator, Sound, ReadTerm, ReadQuestion, Taken}
+use Rattle.query.specs.Machine.{State, before_term, after_term, on, stops, meet, turn, turn_by, Walks, here, step, Fails}
+use Rattle.query.proofs.Leaves.{leaf_facts, leaf_on, leaf_many}
+use Rattle.query.specs.Reading.{bytes, written, terminal, NotOperator, ReadTerm, ReadQuestion, Taken}
 
 pub walks_append : {bs : List ℕ} {p q e : ℕ} {s t u : State} {ts us : List Placed} → Walks bs p s ts q t → Walks bs q t us e u → Walks bs p s (ts ++ us) e u
 walks_append here v = v
@@ -24,28 +26,29 @@ walks_append (step w at met way r) v = step w at met way (walks_append r v)
 pub fails_after : {bs : List ℕ} {p q : ℕ} {s t : State} {ts : List Placed} {f : ReadFault} → Walks bs p s ts q t → Fails bs q t f → Fails bs p s f
 fails_after w f = record { tokens = _; stop = f.stop; state = f.state; walked = walks_append w f.walked; halted = f.halted }
 
+-- where the machine stops at once
+fails_here : {bs : List ℕ} {p : ℕ} {s : State} {e : ReadFault} → turn bs p s ≡ stops e → Fails bs p s e
+fails_here {p = p} {s = s} stop = record { tokens = []; stop = p; state = s; walked = here; halted = stop }
+
 -- a token fault, where one is met
 pub fails_token : {bs : List ℕ} {p : ℕ} {s : State} {e : ReadFault} {d : TokenFault} → e ≡ Token d → scan bs p ≡ fault d → Fails bs p s e
-fails_token {bs} {p} {s} is met = record { tokens = []; stop = p; state = s; walked = here; halted = ap (λ l. turn_by l s) met ∙ ap stops (sym is) }
+fails_token {s = s} is met = fails_here (ap (λ l. turn_by l s) met ∙ ap stops (sym is))
 
 -- a token that is refused
 pub fails_at : {bs : List ℕ} {p : ℕ} {s : State} {e : ReadFault} {w : Terminal} {at after : ℕ} → scan bs p ≡ token w at after → meet s w at after ≡ stops e → Fails bs p s e
-fails_at {bs} {p} {s} met no_way = record { tokens = []; stop = p; state = s; walked = here; halted = ap (λ l. turn_by l s) met ∙ no_way }
+fails_at {s = s} met no_way = fails_here (ap (λ l. turn_by l s) met ∙ no_way)
 
 -- a token that is taken
 pub walks_one : {bs : List ℕ} {p at after : ℕ} {s t : State} {w : Terminal} → scan bs p ≡ token w at after → meet s w at after ≡ on w at after t → Walks bs p s ((w, at) ∷ []) after t
 walks_one met way = step _ _ met way here
 
-taken_same : {r r' : Reader} {f : Located} → Taken r r' f → bytes r' ≡ bytes r
-taken_same t = ap (λ q. q.text.now) t.query
-
 taken_long : {r r' : Reader} {f : Located} → Taken r r' f → written r' ≡ written r
-taken_long t = ap (λ q. q.len) t.query
+taken_long t = ap (λ q. array_vec_len q.steps) t.query
 
 -- what is said of the reader after a token, said of the reader before it
 pub at_taken : {r r' : Reader} {f : Located} (P : List ℕ → ℕ → ℕ → Type 0) → Taken r r' f → P (bytes r') r'.at r'.terms → P (bytes r) f.after r.terms
 at_taken {r} {r'} {f} P t x =
-    subst (λ b. P b f.after r.terms) (taken_same t) (subst (λ n. P (bytes r') f.after n) t.terms (subst (λ p. P (bytes r') p r'.terms) t.moved x))
+    subst (λ b. P b f.after r.terms) t.same (subst (λ n. P (bytes r') f.after n) t.terms (subst (λ p. P (bytes r') p r'.terms) t.moved x))
 
 -- a taken token, met
 pub taken_is : {r r' : Reader} {f : Located} {w : Terminal} → Taken r r' f → terminal f.token ≡ w → scan (bytes r) r.at ≡ token w f.place f.after
@@ -93,15 +96,12 @@ module _ {self r₀ r : Reader} {depth : ℕ} (first : ReadTerm self r₀ depth)
   pub so_fails : {e : ReadFault} → Fails (bytes r) r.at (after_term depth r.terms) e → Fails (bytes self) self.at (before_term depth self.terms) e
   so_fails {e} f = fails_after so_walks (subst (λ b. Fails b r.at (after_term depth r.terms) e) so_same f)
 
-  pub so_within : r.at ≤ length (bytes r)
-  so_within = omega (arith, so.within, ap length so.same)
-
   module _ {r' : Reader} {found : Located} (t : Taken r r' found) where
     -- the question ends
     pub so_ends : NotOperator (terminal found.token) → ReadQuestion self r' depth found
     so_ends other = record {
       onward = record {
-        same = taken_same t ∙ so_same;
+        same = t.same ∙ so_same;
         within = omega (arith, t.moved, t.within, ap length so_same);
         further = omega (arith, t.moved, t.further, so.further, first.onward.further);
         few = omega (arith, t.terms, so.few);
@@ -117,17 +117,6 @@ module _ {self r₀ r : Reader} {depth : ℕ} (first : ReadTerm self r₀ depth)
       other = other;
       moved = t.moved;
     }
-
-    pub so_sound : Sound self → Sound r'
-    so_sound s = record {
-      within = omega (arith, t.moved, t.within, ap length (taken_same t));
-      few = omega (arith, t.terms, so.few);
-      short = omega (arith, s.short, t.terms, taken_long t, so.long, first.onward.long);
-    }
-
-    -- after one more term there is room for its operator
-    pub so_room : {r'' : Reader} → Sound self → ReadTerm r' r'' depth → written r'' < 63
-    so_room s term = omega (arith, s.short, t.terms, taken_long t, so.long, first.onward.long, term.onward.long, term.onward.few)
 
     module _ {op : Operator} (is : found.token ≡ code.Operator op) where
       met : scan (bytes r) r.at ≡ token (operator op) found.place found.after
@@ -146,8 +135,8 @@ module _ {self r₀ r : Reader} {depth : ℕ} (first : ReadTerm self r₀ depth)
           let all = walks_append so.walked both in
           let order : ((steps r₀.query ++ so.suffix) ++ postfix term.expr) ++ sign ∷ [] ≡ steps r₀.query ++ (so.suffix ++ more) = simp append_assoc in
           record {
-            same = same ∙ term.onward.same ∙ taken_same t ∙ so.same;
-            within = omega (arith, at, term.onward.within, ap length (taken_same t), ap length so.same);
+            same = same ∙ term.onward.same ∙ t.same ∙ so.same;
+            within = omega (arith, at, term.onward.within, ap length t.same, ap length so.same);
             further = omega (arith, at, term.onward.further, t.moved, t.further, so.further);
             few = omega (arith, terms, term.onward.few);
             long = omega (arith, terms, long, term.onward.long, t.terms, taken_long t, so.long);
@@ -159,40 +148,6 @@ module _ {self r₀ r : Reader} {depth : ℕ} (first : ReadTerm self r₀ depth)
             post = λ e. ap (λ l. l ++ more) (so.post e) ∙ append_assoc (postfix e) so.suffix more;
             adds = adds ∙ ap (λ l. l ++ sign ∷ []) (term.adds ∙ ap (λ l. l ++ postfix term.expr) (ap steps t.query ∙ so.adds)) ∙ order;
           }
-
--- a leaf is a term by itself
-record LeafTerm (w : Terminal) (at : ℕ) : Type 0 where
-  expr : Expr
-  parsed : Term ((w, at) ∷ []) expr
-  alone_in : postfix expr ≡ (w, at) ∷ []
-
-leaf_term : (w : Terminal) (at : ℕ) → Leaf w → LeafTerm w at
-leaf_term (ident s) at l = record { expr = name s at; parsed = named s at; alone_in = refl }
-leaf_term (hash n) at l = record { expr = windows n at; parsed = windowed n at; alone_in = refl }
-leaf_term (atsign n) at l = record { expr = runs n at; parsed = traced n at; alone_in = refl }
-leaf_term (operator o) at l = absurd l
-leaf_term opens at l = absurd l
-leaf_term closes at l = absurd l
-leaf_term ends at l = absurd l
-
-module _ (depth n at after : ℕ) where
-  pub leaf_on : (w : Terminal) → Leaf w → n < 32 → meet (before_term depth n) w at after ≡ on w at after (after_term depth (n + 1))
-  leaf_on (ident s) l h = cond-true _ _ _ (lt-ltb n 32 h)
-  leaf_on (hash v) l h = cond-true _ _ _ (lt-ltb n 32 h)
-  leaf_on (atsign v) l h = cond-true _ _ _ (lt-ltb n 32 h)
-  leaf_on (operator o) l h = absurd l
-  leaf_on opens l h = absurd l
-  leaf_on closes l h = absurd l
-  leaf_on ends l h = absurd l
-
-  pub leaf_many : (w : Terminal) → Leaf w → 32 ≤ n → meet (before_term depth n) w at after ≡ stops (TooMany at)
-  leaf_many (ident s) l h = cond-false _ _ _ (le-ltb n 32 h)
-  leaf_many (hash v) l h = cond-false _ _ _ (le-ltb n 32 h)
-  leaf_many (atsign v) l h = cond-false _ _ _ (le-ltb n 32 h)
-  leaf_many (operator o) l h = absurd l
-  leaf_many opens l h = absurd l
-  leaf_many closes l h = absurd l
-  leaf_many ends l h = absurd l
 
 -- in `term`: a token is taken
 module _ (depth : ℕ) {self r' : Reader} {found : Located} (t : Taken self r' found) where
@@ -214,7 +169,7 @@ module _ (depth : ℕ) {self r' : Reader} {found : Located} (t : Taken self r' f
       inner = walks_append (goes_in h) (at_taken (λ b p n. Walks b p (before_term (depth + 1) n) q.tokens q.to (after_term (depth + 1) r''.terms)) t q.walked)
 
       last_is : {w : Terminal} → terminal last.token ≡ w → scan (bytes self) q.to ≡ token w last.place last.after
-      last_is e = ap (λ b. scan b q.to) (sym (taken_same t)) ∙ q.next ∙ ap (λ w. token w last.place last.after) e
+      last_is e = ap (λ b. scan b q.to) (sym t.same) ∙ q.next ∙ ap (λ w. token w last.place last.after) e
 
       pub not_closed : meet (after_term (depth + 1) r''.terms) (terminal last.token) last.place last.after ≡ stops (Unexpected last.place) → Fails (bytes self) self.at (before_term depth self.terms) (Unexpected last.place)
       not_closed no_way = fails_after inner (fails_at (last_is refl) no_way)
@@ -226,8 +181,8 @@ module _ (depth : ℕ) {self r' : Reader} {found : Located} (t : Taken self r' f
           let way : meet (after_term (depth + 1) r''.terms) closes last.place last.after ≡ on closes last.place last.after (after_term depth r''.terms) = cond-false _ _ _ positive ∙ ap (λ o. on closes last.place last.after (after_term o r''.terms)) back in
           record {
             onward = record {
-              same = q.onward.same ∙ taken_same t;
-              within = omega (arith, q.onward.within, ap length (taken_same t));
+              same = q.onward.same ∙ t.same;
+              within = omega (arith, q.onward.within, ap length t.same);
               further = omega (arith, q.onward.further, t.moved, t.further);
               few = q.onward.few;
               long = omega (arith, q.onward.long, t.terms, taken_long t);
@@ -247,7 +202,7 @@ module _ (depth : ℕ) {self r' : Reader} {found : Located} (t : Taken self r' f
 
   pub one_term : (r'' : Reader) → Leaf (terminal found.token) → self.terms < 32 → bytes r'' ≡ bytes self → r''.at ≡ found.after → r''.terms ≡ self.terms + 1 → written r'' ≡ written self + 1 → steps r''.query ≡ steps self.query ++ (terminal found.token, found.place) ∷ [] → ReadTerm self r'' depth
   one_term r'' l h same at terms long adds =
-      let leaf = leaf_term (terminal found.token) found.place l in
+      let leaf = leaf_facts (terminal found.token) found.place l in
       let walk = walks_one t.is (leaf_on depth self.terms found.place found.after (terminal found.token) l h) in
       record {
         onward = record {

@@ -18,7 +18,6 @@ pub record Answered (bs : List ℕ) (q : Query) : Type 0 where
   pub expr : Expr
   pub reads : Reads bs expr
   pub order : steps q ≡ postfix expr
-  pub text : q.text.now ≡ bs
   pub bounded : Bounded expr
 
 abbrev pub Complete : List ℕ → Result Query ReadFault → Type 0

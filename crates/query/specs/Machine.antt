@@ -4,7 +4,7 @@
 -- |--------------|-----------------------------------------------------------------------------|
 -- | State        | whether a term or an operator comes next, the brackets that stand open, and the leaves so far |
 -- | Turn         | what happens at a token: on to a state, the end accepted, or a fault        |
--- | meet, turn   | the turn at a terminal; at a place of a text                                |
+-- | meet, turn_by, turn | the turn at a terminal; at a scan; at a place of a text              |
 -- | Walks        | tokens lead from a place and a state to another place and state             |
 -- | Fails        | the machine stops with a fault                                              |
 use Rattle.std.specs.Prelude.{◌≡◌, ℕ, ◌+◌, ◌-◌, cond, List, [], ◌∷◌, ◌==◌, nat_lt}

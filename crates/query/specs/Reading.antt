@@ -3,15 +3,24 @@
 -- | definition   | meaning                                                                   |
 -- |--------------|---------------------------------------------------------------------------|
 -- | scanned      | the lexer's answer as a scan                                              |
+-- | terminal     | a token as a terminal                                                     |
+-- | weight       | what an operator or a bracket takes at least                              |
 -- | Ahead        | a token ends within the text, and an operator or a bracket takes a byte at least |
--- | Spelt        | a name's bytes are those of the text at its place                         |
 -- | bytes        | the text of a reader                                                      |
+-- | written      | how many steps a reader has stored                                        |
 -- | Sound        | a reader stands within its text, and its store has room                   |
+-- | Onward       | a reader stands further on in the same text, with more steps              |
+-- | NotOperator  | a terminal is no operator                                                 |
 -- | Taken        | a token was taken                                                         |
+-- | Faulty       | the token that comes next has the fault e                                 |
+-- | Stopped      | the machine stops with the fault e on the way through a term or a question |
 -- | ReadTerm     | a term was read, and its steps stored                                     |
 -- | ReadQuestion | a question was read, its steps stored, and the token after it taken, which is no operator |
-use Rattle.std.specs.Prelude.{◌≡◌, ℕ, ◌+◌, ◌*◌, ◌≤◌, List, ◌++◌, length, take, drop, Ok, Err, Result}
+use Rattle.std.specs.Prelude.{◌≡◌, ℕ, ◌+◌, ◌*◌, ◌≤◌, List, ◌++◌, length, Ok, Err, Result}
+use Rattle.arrayvec.specs.ArrayVec.{array_vec_len}
 use Rattle.query.specs.declared.fault.TokenFault.{TokenFault}
+use Rattle.query.specs.declared.fault.ReadFault.{ReadFault}
+use Rattle.query.specs.declared.fault.ReadFault.TheVariants.{Token as held}
 use Rattle.query.specs.declared.token.Token.{Token}
 use Rattle.query.specs.declared.token.Token.TheVariants as code
 use Rattle.query.specs.declared.token.Located.{Located}
@@ -22,7 +31,7 @@ use Rattle.query.specs.Expressions.{Expr, postfix}
 use Rattle.query.specs.Grammar.{Question, Term}
 use Rattle.query.specs.Scanning.{Scan, token, fault, scan}
 use Rattle.query.specs.Queries.{steps}
-use Rattle.query.specs.Machine.{before_term, after_term, Walks}
+use Rattle.query.specs.Machine.{before_term, after_term, Walks, Fails}
 
 abbrev pub terminal : Token → Terminal
 terminal (code.Name s) = ident s.now
@@ -50,23 +59,11 @@ weight code.End = 0
 abbrev pub Ahead : ℕ → ℕ → Located → Type 0
 Ahead from end f = (from + weight f.token ≤ f.after) × (f.after ≤ end)
 
-abbrev pub SpeltToken : List ℕ → ℕ → Token → Type 0
-SpeltToken bs place (code.Name s) = s.now ≡ take (length s.now) (drop place bs)
-SpeltToken bs place (code.Windows n) = Unit {0}
-SpeltToken bs place (code.Runs n) = Unit {0}
-SpeltToken bs place (code.Operator o) = Unit {0}
-SpeltToken bs place code.Open = Unit {0}
-SpeltToken bs place code.Close = Unit {0}
-SpeltToken bs place code.End = Unit {0}
-
-abbrev pub Spelt : List ℕ → Located → Type 0
-Spelt bs f = SpeltToken bs f.place f.token
-
 abbrev pub bytes : Reader → List ℕ
-bytes r = r.query.text.now
+bytes r = r.text.now
 
 abbrev pub written : Reader → ℕ
-written r = r.query.len
+written r = array_vec_len r.query.steps
 
 pub record Sound (r : Reader) : Type 0 where
   pub within : r.at ≤ length (bytes r)
@@ -77,10 +74,18 @@ pub record Taken (r r' : Reader) (f : Located) : Type 0 where
   pub is : scan (bytes r) r.at ≡ token (terminal f.token) f.place f.after
   pub within : f.after ≤ length (bytes r)
   pub further : r.at + weight f.token ≤ f.after
-  pub spelt : Spelt (bytes r) f
+  pub same : bytes r' ≡ bytes r
   pub moved : r'.at ≡ f.after
   pub terms : r'.terms ≡ r.terms
   pub query : r'.query ≡ r.query
+
+pub record Faulty (r : Reader) (e : ReadFault) : Type 0 where
+  pub cause : TokenFault
+  pub is : e ≡ held cause
+  pub met : scan (bytes r) r.at ≡ fault cause
+
+abbrev pub Stopped : Reader → ℕ → ReadFault → Type 0
+Stopped r depth e = Fails (bytes r) r.at (before_term depth r.terms) e
 
 -- the reader r' stands further on in the text of r, with the steps of one term or question more
 pub record Onward (r r' : Reader) : Type 0 where

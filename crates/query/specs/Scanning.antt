@@ -4,12 +4,11 @@
 -- |------------|-------------------------------------------------------------------------------|
 -- | Scan       | a terminal with the place where it begins and the place after it, or a fault  |
 -- | space, digit | tests of a byte                                                             |
--- | begin_of   | how a byte can begin a token                                                  |
 -- | name_at    | the longest run of name bytes, a fault where it is too long                   |
 -- | amount_at  | the digits after a `#` or `@`, as far as they go: the number that they write and the place after them, a fault where there is none or the number is too large |
 -- | marked     | a `#` or an `@` with its number, as a scan                                    |
 -- | not_at     | the operator that begins with `!`                                             |
--- | scan_by, scan_at | what begins at a place that holds no space; past the last byte, the end |
+-- | scan_by, scan_at | what begins with a byte; what begins at a place that holds no space, past the last byte the end |
 -- | scan_from, scan | what stands in a text from a place on, spaces passed over; `scan` is kept shut |
 -- | Lexes bs p ts q | ts are the tokens of bs from the place p to the place q                  |
 use Rattle.std.specs.Prelude.{◌≡◌, ℕ, ◌+◌, Bool, cond, List, [], ◌∷◌, length, take, drop, Ok, Err, Result, ◌==◌, nat_le, nat_lt, slice_index}
@@ -19,8 +18,6 @@ use Rattle.std.specs.Char.{is_ascii_digit}
 use Rattle.extents.specs.declared.operator.Operator.TheVariants.{ContainedIn, NotContainedIn, Containing, NotContaining, BothOf, OneOf, FollowedBy}
 use Rattle.query.specs.declared.fault.TokenFault.{TokenFault}
 use Rattle.query.specs.declared.fault.TokenFault.TheVariants.{Unknown, Over}
-use Rattle.query.specs.declared.lexer.Begin.{Begin}
-use Rattle.query.specs.declared.lexer.Begin.TheVariants.{Open, Close, One, Not, Windows, Runs, Name, Nothing}
 use Rattle.postings.specs.Names.{name_byte}
 use Rattle.query.specs.Limits.{name_max, windows_max, runs_max}
 use Rattle.query.specs.Terminals.{Terminal, ident, hash, atsign, operator, opens, closes, ends, Placed}
@@ -34,22 +31,6 @@ space b = b == 32
 
 abbrev pub digit : ℕ → Bool
 digit b = is_ascii_digit b
-
--- ( ) < > & | ; ! # @, a name byte, or none of these
-abbrev pub begin_of : ℕ → Begin
-begin_of b =
-    cond (b == 40) Open
-    (cond (b == 41) Close
-    (cond (b == 60) (One ContainedIn)
-    (cond (b == 62) (One Containing)
-    (cond (b == 38) (One BothOf)
-    (cond (b == 124) (One OneOf)
-    (cond (b == 59) (One FollowedBy)
-    (cond (b == 33) Not
-    (cond (b == 35) Windows
-    (cond (b == 64) Runs
-    (cond (name_byte b) Name
-    Nothing))))))))))
 
 -- bs is the text from the place `at` on
 abbrev pub name_at : List ℕ → ℕ → Scan
@@ -74,19 +55,25 @@ not_at bs at =
     (cond (slice_index bs (at + 1) == 62) (token (operator NotContaining) at (at + 2))
     (fault (Unknown at)))
 
-abbrev pub scan_by : Begin → List ℕ → ℕ → Scan
-scan_by Open bs at = token opens at (at + 1)
-scan_by Close bs at = token closes at (at + 1)
-scan_by (One o) bs at = token (operator o) at (at + 1)
-scan_by Not bs at = not_at bs at
-scan_by Windows bs at = marked hash at (amount_at windows_max (drop (at + 1) bs) at)
-scan_by Runs bs at = marked atsign at (amount_at runs_max (drop (at + 1) bs) at)
-scan_by Name bs at = name_at (drop at bs) at
-scan_by Nothing bs at = fault (Unknown at)
+-- what begins with the byte b at the place `at`: ( ) < > & | ; ! # @, a name byte, or none of these
+abbrev pub scan_by : ℕ → List ℕ → ℕ → Scan
+scan_by b bs at =
+    cond (b == 40) (token opens at (at + 1))
+    (cond (b == 41) (token closes at (at + 1))
+    (cond (b == 60) (token (operator ContainedIn) at (at + 1))
+    (cond (b == 62) (token (operator Containing) at (at + 1))
+    (cond (b == 38) (token (operator BothOf) at (at + 1))
+    (cond (b == 124) (token (operator OneOf) at (at + 1))
+    (cond (b == 59) (token (operator FollowedBy) at (at + 1))
+    (cond (b == 33) (not_at bs at)
+    (cond (b == 35) (marked hash at (amount_at windows_max (drop (at + 1) bs) at))
+    (cond (b == 64) (marked atsign at (amount_at runs_max (drop (at + 1) bs) at))
+    (cond (name_byte b) (name_at (drop at bs) at)
+    (fault (Unknown at))))))))))))
 
 -- what begins at the place `at`
 abbrev pub scan_at : List ℕ → ℕ → Scan
-scan_at bs at = cond (nat_lt at (length bs)) (scan_by (begin_of (slice_index bs at)) bs at) (token ends at at)
+scan_at bs at = cond (nat_lt at (length bs)) (scan_by (slice_index bs at) bs at) (token ends at at)
 
 abbrev pub scan_from : List ℕ → ℕ → Scan
 scan_from bs from = scan_at bs (from + prefix_len space (drop from bs))

@@ -3,7 +3,10 @@ ghost use Rattle.std.specs.Prelude.{◌≡◌};
 ghost use Rattle.query.specs.declared.fault.ReadFault.TheVariants.{Token as held};
 ghost use Rattle.query.specs.Faults.{token_refusal, read_refusal};
 
-#[derive(Clone, Copy, Debug, PartialEq)]
+use std::error::Error;
+use std::fmt;
+
+#[derive(Clone, Copy, Debug, PartialEq, Eq)]
 pub enum TokenFault {
     // A byte that begins no token.
     Unknown(usize),
@@ -11,7 +14,7 @@ pub enum TokenFault {
     Over(usize),
 }
 
-#[derive(Clone, Copy, Debug, PartialEq)]
+#[derive(Clone, Copy, Debug, PartialEq, Eq)]
 pub enum ReadFault {
     Token(TokenFault),
     // A token, or the end, that the grammar does not allow there.
@@ -32,6 +35,7 @@ impl From<TokenFault> for ReadFault {
 
 impl TokenFault {
     // The fault's number.
+    // Stays: one match for all cases, as their one definition has it; cases with a place have no discriminant.
     pub fn number(&self) -> u8
         ensures { result ≡ (token_refusal self.now).0 }
     {
@@ -52,8 +56,23 @@ impl TokenFault {
     }
 }
 
+impl fmt::Display for TokenFault {
+    ghost use Rattle.std.specs.Prelude.{Some};
+    ghost use Rattle.extents.specs.Refusals.{refused_at};
+    ghost use Rattle.query.specs.Faults.{token_refusal};
+
+    ghost output = { λ f. Some (refused_at (token_refusal f).0 (token_refusal f).1) };
+
+    fn fmt<W: fmt::Write>(&self, f: &mut fmt::Formatter<W>) -> fmt::Result {
+        write!(f, "{}", ReadFault::from(*self))
+    }
+}
+
+impl Error for TokenFault {}
+
 impl ReadFault {
     // The fault's number.
+    // Stays: one match for all cases, as their one definition has it; cases with a place have no discriminant.
     pub fn number(&self) -> u8
         ensures { result ≡ (read_refusal self.now).0 }
     {
@@ -77,3 +96,18 @@ impl ReadFault {
         }
     }
 }
+
+// Stays: thiserror derives it without a contract, and no trait of refusals can give it to them all.
+impl fmt::Display for ReadFault {
+    ghost use Rattle.std.specs.Prelude.{Some};
+    ghost use Rattle.extents.specs.Refusals.{refused_at};
+    ghost use Rattle.query.specs.Faults.{read_refusal};
+
+    ghost output = { λ f. Some (refused_at (read_refusal f).0 (read_refusal f).1) };
+
+    fn fmt<W: fmt::Write>(&self, f: &mut fmt::Formatter<W>) -> fmt::Result {
+        write!(f, "refused {} at {}", self.number(), self.place())
+    }
+}
+
+impl Error for ReadFault {}

@@ -1,16 +1,14 @@
 // A query as it was read: its steps in running order, each with its place in the text.
-ghost use Rattle.std.specs.Prelude.{◌≡◌, ◌+◌, ◌-◌, ◌<◌, ◌≤◌, min, [], ◌∷◌, ◌++◌, length, take, drop};
-ghost use Rattle.std.specs.Option.{option_map};
-ghost use Rattle.std.specs.List.{slice_get};
-ghost use Rattle.query.specs.Queries.{steps, shown, stored_kind};
+ghost use Rattle.std.specs.Prelude.{◌≡◌, ◌+◌, ◌<◌, ◌≤◌, [], ◌∷◌, ◌++◌, length, map};
+ghost use Rattle.arrayvec.specs.ArrayVec.{array_vec_len};
+ghost use Rattle.query.specs.Queries.{steps, shown, shown_action};
 
+use arrayvec::ArrayVec;
 use extents::operator::Operator;
 
-// A query of 32 names, `#` and `@` has 31 operators.
-const MAX_STEPS: usize = 63;
-
 // What a step does.
-#[derive(Clone, Copy)]
+// Stays: not a part of Token, whose name, number and operator cases are a rule of the project; a step has no bracket and no end.
+#[derive(Clone, Copy, Debug, PartialEq, Eq)]
 pub enum Action<'a> {
     Name(&'a [u8]),
     // Windows of so many slots.
@@ -22,94 +20,58 @@ pub enum Action<'a> {
 }
 
 // What to do next, and the place of its token.
-#[derive(Clone, Copy)]
+#[derive(Clone, Copy, Debug, PartialEq, Eq)]
 pub struct Step<'a> {
     pub action: Action<'a>,
     pub place: usize,
 }
 
-// A step's action, where a name is so many bytes of the text from the step's place on.
-#[derive(Clone, Copy)]
-pub(crate) enum Kind {
-    Name(usize),
-    Windows(u32),
-    Runs(u32),
-    Apply(Operator),
+// Windows of no slot: what fills the room past the last step.
+// Stays: by hand, since a variant that holds a value cannot be derived as the default. A list in fixed memory needs one.
+impl<'a> Default for Step<'a> {
+    ghost use Rattle.query.specs.Terminals.{hash};
+
+    ghost is_default = { λ s. shown s ≡ (hash 0, 0) };
+
+    fn default() -> Step<'a> {
+        Step {
+            action: Action::Windows(0),
+            place: 0,
+        }
+    }
 }
 
-#[derive(Clone, Copy)]
-struct Stored {
-    kind: Kind,
-    place: usize,
-}
-
-// Left operand, right operand, operator.
-#[derive(Clone, Copy)]
+// Left operand, right operand, operator. A query of 32 names, `#` and `@` has 31 operators.
+#[derive(Clone, Drop, Debug, PartialEq, Eq)]
 pub struct Query<'a> {
-    pub(crate) text: &'a [u8],
-    steps: [Stored; 63],
-    len: usize,
-}
-
-// The n bytes from `at` on, or as many as there are.
-fn part<'a>(text: &'a [u8], at: usize, n: usize) -> &'a [u8]
-    ensures { result.now ≡ take n (drop at text.now) }
-{
-    let from = at.min(text.len());
-    let count = n.min(text.len() - from);
-    &text[from..from + count]
+    steps: ArrayVec<Step<'a>, 63>,
 }
 
 impl<'a> Query<'a> {
     // No step yet.
-    pub(crate) fn new(text: &'a [u8]) -> Query<'a>
+    pub(crate) fn new() -> Query<'a>
         ensures none { steps result ≡ [] }
-        ensures short { result.len ≡ 0 }
-        ensures same { result.text.now ≡ text.now }
+        ensures short { array_vec_len result.steps ≡ 0 }
     {
         Query {
-            text,
-            steps: [Stored {
-                kind: Kind::Windows(0),
-                place: 0,
-            }; 63],
-            len: 0,
+            steps: ArrayVec::new(),
         }
     }
 
     // One more step at the end.
-    pub(crate) fn push(&mut self, kind: Kind, place: usize)
-        requires { self.old.len < 63 }
-        ensures items { steps self.new ≡ steps self.old ++ (stored_kind self.old.text.now place kind, place) ∷ [] }
-        ensures long { self.new.len ≡ self.old.len + 1 }
-        ensures same { self.new.text ≡ self.old.text }
+    pub(crate) fn push(&mut self, action: Action<'a>, place: usize)
+        requires { array_vec_len self.old.steps < 63 }
+        ensures items { steps self.new ≡ steps self.old ++ (shown_action action.entry, place) ∷ [] }
+        ensures long { array_vec_len self.new.steps ≡ array_vec_len self.old.steps + 1 }
     {
-        self.steps[self.len] = Stored { kind, place };
-        self.len += 1;
+        self.steps.push(Step { action, place });
     }
 
-    // How many steps.
-    pub fn len(&self) -> usize
-        ensures count { result ≡ length (steps self.now) }
-        ensures few { result ≤ 63 }
+    // The steps in running order.
+    pub fn steps(&self) -> &[Step<'a>]
+        ensures all { map shown result.now ≡ steps self.now }
+        ensures few { length result.now ≤ 63 }
     {
-        self.len.min(MAX_STEPS)
-    }
-
-    // The step at the index i, in running order.
-    pub fn step(&self, i: usize) -> Option<Step<'a>>
-        ensures { option_map shown result ≡ slice_get (steps self.now) i }
-    {
-        if i >= self.len() {
-            return None;
-        }
-        let Stored { kind, place } = self.steps[i];
-        let action = match kind {
-            Kind::Name(n) => Action::Name(part(self.text, place, n)),
-            Kind::Windows(n) => Action::Windows(n),
-            Kind::Runs(n) => Action::Runs(n),
-            Kind::Apply(operator) => Action::Apply(operator),
-        };
-        Some(Step { action, place })
+        self.steps.as_slice()
     }
 }

@@ -1,14 +1,12 @@
 // The reader: a recursive descent over the tokens, which stops at the leftmost fault.
-ghost use Rattle.std.specs.Prelude.{◌≡◌, ◌+◌, ◌-◌, ◌<◌, ◌≤◌, length, MatchResult};
-ghost use Rattle.query.specs.Scanning.{scan, fault};
+ghost use Rattle.std.specs.Prelude.{◌≤◌, length, IfOk, IfErr, MatchResult};
 ghost use Rattle.query.specs.Answers.{Answered, Complete, Leftmost, Unambiguous};
-ghost use Rattle.query.specs.Machine.{before_term, Fails};
 ghost use Rattle.query.specs.Outcomes.{Refuses};
-ghost use Rattle.query.specs.Reading.{bytes, Sound, Taken, ReadTerm, ReadQuestion};
+ghost use Rattle.query.specs.Reading.{bytes, Sound, Taken, Faulty, Stopped, ReadTerm, ReadQuestion};
 
-use crate::fault::{ReadFault, TokenFault};
+use crate::fault::ReadFault;
 use crate::lexer::next_token;
-use crate::query::{Kind, Query};
+use crate::query::{Action, Query};
 use crate::token::{Located, Token};
 
 const OPEN_MAX: u8 = 16;
@@ -18,6 +16,7 @@ const LEAF_MAX: u8 = 32;
 // The query so far, where the text goes on, and how many leaves have been read.
 #[derive(Drop)]
 struct Reader<'a> {
+    text: &'a [u8],
     query: Query<'a>,
     at: usize,
     terms: u8,
@@ -27,53 +26,47 @@ impl<'a> Reader<'a> {
     // The next token.
     fn take(&mut self) -> Result<Located<'a>, ReadFault>
         requires { self.old.at ≤ length (bytes self.old) }
-        ensures { MatchResult result (λ f. Taken self.old self.new f) (λ e. (d : TokenFault) × (e ≡ ReadFault.Token d) × (scan (bytes self.old) self.old.at ≡ fault d)) }
+        ensures taken { IfOk result (λ f. Taken self.old self.new f) }
+        ensures faulty { IfErr result (λ e. Faulty self.old e) }
     {
-        let found = next_token(self.query.text, self.at)?;
+        let found = next_token(self.text, self.at)?;
         self.at = found.after;
         Ok(found)
     }
 
     // A term, then operators each with a term; answers the token after them.
-    #[cycle(operand_question_term)]
+    #[cycle(question_term)]
     fn question(&mut self, depth: u8) -> Result<Located<'a>, ReadFault>
         requires sound { Sound self.old }
         requires shallow { depth ≤ 16 }
-        ensures { MatchResult result (λ f. ReadQuestion self.old self.new depth f) (λ e. Fails (bytes self.old) self.old.at (before_term depth self.old.terms) e) }
+        ensures { MatchResult result (λ f. ReadQuestion self.old self.new depth f) (λ e. Stopped self.old depth e) }
     {
         self.term(depth)?;
+        // Stays: tokens are taken until one is no operator; no index is counted.
         loop {
             let found = self.take()?;
             let Token::Operator(operator) = found.token else {
                 return Ok(found);
             };
-            self.operand(depth)?;
-            self.query.push(Kind::Apply(operator), found.place);
+            // One term alone: operators group from the left.
+            self.term(depth)?;
+            self.query.push(Action::Apply(operator), found.place);
         }
     }
 
-    // An operator's right operand: one term, since operators group from the left.
-    #[cycle(operand_question_term)]
-    fn operand(&mut self, level: u8) -> Result<(), ReadFault>
-        requires sound { Sound self.old }
-        requires shallow { level ≤ 16 }
-        ensures { MatchResult result (λ _. ReadTerm self.old self.new level) (λ e. Fails (bytes self.old) self.old.at (before_term level self.old.terms) e) }
-    {
-        self.term(level)
-    }
-
     // A name, a `#`, an `@`, or a question in brackets.
-    #[cycle(operand_question_term)]
+    #[cycle(question_term)]
     fn term(&mut self, depth: u8) -> Result<(), ReadFault>
         requires sound { Sound self.old }
         requires shallow { depth ≤ 16 }
-        ensures { MatchResult result (λ _. ReadTerm self.old self.new depth) (λ e. Fails (bytes self.old) self.old.at (before_term depth self.old.terms) e) }
+        ensures { MatchResult result (λ _. ReadTerm self.old self.new depth) (λ e. Stopped self.old depth e) }
     {
         let found = self.take()?;
-        let kind = match found.token {
-            Token::Name(name) => Kind::Name(name.len()),
-            Token::Windows(n) => Kind::Windows(n),
-            Token::Runs(n) => Kind::Runs(n),
+        // Stays: three tokens carry over into actions, and a TryFrom for them would be as long.
+        let action = match found.token {
+            Token::Name(name) => Action::Name(name),
+            Token::Windows(n) => Action::Windows(n),
+            Token::Runs(n) => Action::Runs(n),
             Token::Open => {
                 if depth == OPEN_MAX {
                     return Err(ReadFault::TooDeep(found.place));
@@ -90,7 +83,7 @@ impl<'a> Reader<'a> {
             return Err(ReadFault::TooMany(found.place));
         }
         self.terms += 1;
-        self.query.push(kind, found.place);
+        self.query.push(action, found.place);
         Ok(())
     }
 }
@@ -103,7 +96,8 @@ pub fn read<'a>(text: &'a [u8]) -> Result<Query<'a>, ReadFault>
     ensures unambiguous { Unambiguous text.now }
 {
     let mut reader = Reader {
-        query: Query::new(text),
+        text,
+        query: Query::new(),
         at: 0,
         terms: 0,
     };

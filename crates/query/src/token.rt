@@ -1,7 +1,7 @@
 // The tokens of a query's text.
 use extents::operator::Operator;
 
-#[derive(Clone, Copy)]
+#[derive(Clone, Copy, Debug, PartialEq, Eq)]
 pub enum Token<'a> {
     Name(&'a [u8]),
     // `#` with its number.
@@ -15,7 +15,7 @@ pub enum Token<'a> {
 }
 
 // A token, where it begins, and where the text goes on after it.
-#[derive(Clone, Copy)]
+#[derive(Clone, Copy, Debug, PartialEq, Eq)]
 pub struct Located<'a> {
     pub token: Token<'a>,
     pub place: usize,

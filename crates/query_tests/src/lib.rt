@@ -11,7 +11,7 @@ mod tests {
     // A fault's number and place, or 0 and the number of steps.
     fn told(text: &[u8]) -> (u8, usize) {
         match read(text) {
-            Ok(query) => (0, query.len()),
+            Ok(query) => (0, query.steps().len()),
             Err(fault) => (fault.number(), fault.place()),
         }
     }
@@ -31,7 +31,7 @@ mod tests {
 
     // A step's first byte, its length or number, and its place; zeros past the last step.
     fn step(query: &Query, i: usize) -> (u8, usize, usize) {
-        let Some(Step { action, place }) = query.step(i) else {
+        let Some(Step { action, place }) = query.steps().get(i).copied() else {
             return (0, 0, 0);
         };
         match action {
@@ -91,7 +91,7 @@ mod tests {
     #[test]
     fn running_order(rt: HostRuntime) -> Result<(), Fail> {
         let query = read(b"alarm !< cut | (#5 ; @1590)")?;
-        assert_eq!(rt; query.len(), 7);
+        assert_eq!(rt; query.steps().len(), 7);
         assert_eq!(rt; step(&query, 0), (b'a', 5, 0));
         assert_eq!(rt; step(&query, 1), (b'c', 3, 9));
         assert_eq!(rt; step(&query, 2), (b'n', 0, 6));

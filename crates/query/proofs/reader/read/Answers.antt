@@ -1,10 +1,9 @@
-use Rattle.std.proofs.Common.{ℕ, List, ◌++◌, Ok, Err, ap, ◌∙◌, subst}
+use Rattle.std.proofs.Common.{ℕ, List, ◌++◌, Ok, Err, ap, ◌∙◌}
 use Rattle.std.proofs.lemmas.Result.{err_from_is_err_and}
 use Rattle.query.specs.declared.fault.ReadFault.{ReadFault}
-use Rattle.query.specs.declared.fault.ReadFault.TheVariants.{Unexpected}
 use Rattle.query.specs.declared.query.Query.{Query}
 use Rattle.query.specs.Expressions.{postfix}
-use Rattle.query.specs.Outcomes.{Reads, Refuses}
+use Rattle.query.specs.Outcomes.{Refuses}
 use Rattle.query.specs.Answers.{Answered, Complete, Leftmost}
 use Rattle.query.specs.Scanning.{token}
 use Rattle.query.specs.Reading.{terminal}
@@ -30,21 +29,19 @@ module _ {bs : List ℕ} where
 pub returns-in_err-last : goal.returns-in_err-last
 returns-in_err-last c =
     let p = err_from_is_err_and c.from_residual.result c.from_residual.ensures.1 in
-    let x = subst (λ b. Refuses b c.in_err-last.field-0.0) c.new.ensures.same (fails_refuses c.in_err-last.ensures) in
+    let x = fails_refuses c.in_err-last.ensures in
     rw (p.1, p.2) (record { outcome = x; complete = refused_complete x; leftmost = refused_leftmost x; unambiguous = λ e f. reads_once })
 
 pub returns-in-End : goal.returns-in-End
 returns-in-End c =
     let q = c.in_ok-last.ensures in
     let last = c.in_ok-last.last in
-    let same = c.new.ensures.same in
     let met = q.next ∙ ap (λ t. token (terminal t) last.place last.after) c.in-End.is in
-    let reads = subst (λ b. Reads b q.expr) same (walk_reads q.walked met q.parsed) in
+    let reads = walk_reads q.walked met q.parsed in
     let a : Answered c.args.text.now c.question.new.self.query = record {
       expr = q.expr;
       reads = reads;
       order = q.adds ∙ ap (λ l. l ++ postfix q.expr) c.new.ensures.none;
-      text = q.onward.same ∙ same;
       bounded = reads_bounded reads;
     } in
     record { outcome = a; complete = read_complete a; leftmost = read_leftmost a; unambiguous = λ e f. reads_once }
@@ -54,5 +51,5 @@ returns-in_default c =
     let q = c.in_ok-last.ensures in
     let last = c.in_ok-last.last in
     let halts = fails_after q.walked (fails_at q.next (unexpected_last _ last.place last.after last.token q.other c.in_default.not-End)) in
-    let x = subst (λ b. Refuses b (Unexpected last.place)) c.new.ensures.same (fails_refuses halts) in
+    let x = fails_refuses halts in
     record { outcome = x; complete = refused_complete x; leftmost = refused_leftmost x; unambiguous = λ e f. reads_once }
