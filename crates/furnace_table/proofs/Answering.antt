@@ -3,9 +3,10 @@ use Rattle.std.proofs.Common.{◌≡◌, ◌-◌, List, [], ◌∷◌, ◌++◌,
 use Rattle.std.specs.List.{AllByRecursion}
 use Rattle.extents.specs.declared.extent.Extent.{Extent}
 use Rattle.extents.specs.Counts.{capped}
-use Rattle.search.specs.declared.answer.Answer.{Answer}
+use Rattle.operators.specs.declared.listing.Listing.{Listing}
 use Rattle.search.specs.declared.fault.SearchFault.{SearchFault}
 use Rattle.search.specs.Law.{query_calls}
+use Rattle.search.specs.Meaning.{listed}
 use Rattle.search.specs.Searches.{Found, Answers, blank}
 use Rattle.furnace_table.specs.Table.{furnace_log, areas, Row, Holds, Given, Answered}
 
@@ -13,7 +14,7 @@ use Rattle.furnace_table.specs.Table.{furnace_log, areas, Row, Holds, Given, Ans
 abbrev pub Countable : Row → Type 0
 Countable row = capped row.calls ≡ row.calls
 
-given : (row : Row) (h : Holds row) → Countable row → (r : Result Answer SearchFault) (stack scratch : List Extent) → Found furnace_log areas h.expr r stack scratch → Given row r stack scratch
+given : (row : Row) (h : Holds row) → Countable row → (r : Result Listing SearchFault) (stack scratch : List Extent) → Found (listed furnace_log h.expr) (query_calls furnace_log h.expr) areas r stack scratch → Given row r stack scratch
 given row h countable r stack scratch f = record {
   answer =
       f.answer
@@ -28,6 +29,6 @@ answered_all [] h c = tt
 answered_all (row ∷ rows) h c = (
   (λ r stack scratch s.
       given row h.0 c.0 r stack scratch
-      (subst (λ o. Answers furnace_log areas h.0.expr o r stack scratch) h.0.unrefused (s.query h.0.expr h.0.reads))),
+      (subst (λ o. Answers (listed furnace_log h.0.expr) (query_calls furnace_log h.0.expr) areas o r stack scratch) h.0.unrefused (s.query h.0.expr h.0.reads))),
   answered_all rows h.1 c.1,
 )

@@ -18,9 +18,9 @@ use Rattle.shift_logbook.specs.Ledger.{Entry, ledger_lists}
 use Rattle.shift_logbook.specs.History.{ledger_after}
 use Rattle.extents.specs.declared.extent.Extent.{Extent}
 use Rattle.extents.specs.Regions.{Lists}
+use Rattle.operators.specs.declared.listing.Listing.{Listing}
 use Rattle.query.specs.Expressions.{Expr}
 use Rattle.query.specs.Outcomes.{Reads}
-use Rattle.search.specs.declared.answer.Answer.{Answer}
 use Rattle.search.specs.declared.fault.SearchFault.{SearchFault}
 use Rattle.search.specs.Meaning.{Log, denotes, listed}
 use Rattle.search.specs.Law.{Room, search_fault, query_calls}
@@ -80,13 +80,13 @@ pub record Holds (row : Row) : Type 0 where
   pub means : Lists (denotes furnace_log expr) row.extents
   pub count : query_calls furnace_log expr ≡ row.calls
 
-pub record Given (row : Row) (r : Result Answer SearchFault) (stack scratch : List Extent) : Type 0 where
+pub record Given (row : Row) (r : Result Listing SearchFault) (stack scratch : List Extent) : Type 0 where
   pub answer : r ≡ Ok (record { n = length row.extents; calls = row.calls })
   pub stack_is : stack ≡ row.extents ++ replicate (areas.stack - length row.extents) blank
   pub scratch_is : scratch ≡ replicate areas.scratch blank
 
 abbrev pub Answered : Row → Type 0
-Answered row = (r : Result Answer SearchFault) (stack scratch : List Extent) → Searched furnace_log areas row.text r stack scratch → Given row r stack scratch
+Answered row = (r : Result Listing SearchFault) (stack scratch : List Extent) → Searched furnace_log areas row.text r stack scratch → Given row r stack scratch
 
 pub record FurnaceTable : Type 0 where
   pub accepted : ledger_after [] entries ≡ entries

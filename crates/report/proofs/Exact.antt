@@ -12,9 +12,6 @@ use Rattle.search.proofs.Points.{points_rise}
 use Rattle.report.specs.Law.{all_fetched}
 use Rattle.report.specs.Quiet.{rev_begin, rev_end, alarm, cut, points, quiet_reversals, QuietReversal}
 
-pub points_list : (p : PostingLists) → Lawful p → (n : List ℕ) → ExtentList (points p n)
-points_list p law n = points_rise (p.slots n) (law.rising n) (λ i l. omega (arith, law.below n i l, law.short))
-
 -- the operator over two lists, where the sets that they list are given by other words
 not_containing_listed : (A B : Extent → Type 0) (ls rs : List Extent) → Lists A ls → Lists B rs → Lists (operator_set NotContaining A B) (operator_list NotContaining ls rs)
 not_containing_listed A B ls rs a b =
@@ -28,7 +25,7 @@ not_containing_listed A B ls rs a b =
 
 module _ (p : PostingLists) (law : Lawful p) where
   abbrev rises : (n : List ℕ) → ExtentList (points p n)
-  rises = points_list p law
+  rises = points_rise p law
 
   pub quiet_listed : Lists (QuietReversal p) (quiet_reversals p)
   quiet_listed =

@@ -1,30 +1,16 @@
 -- What a report answers, and what its two areas then hold. Assumes nothing.
 --
---   Refused   it is refused with this fault, and both areas are cleared
---   Found     it answers how many quiet reversals there are and how many calls it made, at most 2^64 - 1; they stand at the front of the
---             stack area, and the rest of both areas is cleared
---   Answers   one or the other, by the fault that the law gives
-use Rattle.std.specs.Prelude.{◌≡◌, ◌-◌, List, ◌++◌, length, replicate, Some, None, Ok, Err, Option, Result}
+--   Reported   it lists the quiet reversals, after the calls that a report makes, or is refused with the fault that the law gives:
+--              the answer, the stack area and the scratch area are those of a search that lists so
+use Rattle.std.specs.Prelude.{List, Result}
 use Rattle.postings.specs.Lists.{PostingLists}
 use Rattle.extents.specs.declared.extent.Extent.{Extent}
-use Rattle.extents.specs.Counts.{capped}
-use Rattle.search.specs.declared.answer.Answer.{Answer}
+use Rattle.operators.specs.declared.listing.Listing.{Listing}
 use Rattle.search.specs.Law.{Room}
-use Rattle.search.specs.Searches.{blank}
+use Rattle.search.specs.Searches.{Answers}
 use Rattle.report.specs.declared.fault.ReportFault.{ReportFault}
 use Rattle.report.specs.Quiet.{quiet_reversals}
-use Rattle.report.specs.Law.{report_calls}
+use Rattle.report.specs.Law.{report_calls, report_fault}
 
-pub record Refused (room : Room) (fault : ReportFault) (r : Result Answer ReportFault) (stack scratch : List Extent) : Type 0 where
-  pub answer : r ≡ Err fault
-  pub stack_is : stack ≡ replicate room.stack blank
-  pub scratch_is : scratch ≡ replicate room.scratch blank
-
-pub record Found (p : PostingLists) (room : Room) (r : Result Answer ReportFault) (stack scratch : List Extent) : Type 0 where
-  pub answer : r ≡ Ok (record { n = length (quiet_reversals p); calls = capped (report_calls p) })
-  pub stack_is : stack ≡ quiet_reversals p ++ replicate (room.stack - length (quiet_reversals p)) blank
-  pub scratch_is : scratch ≡ replicate room.scratch blank
-
-abbrev pub Answers : PostingLists → Room → Option ReportFault → Result Answer ReportFault → List Extent → List Extent → Type 0
-Answers p room None = Found p room
-Answers p room (Some fault) = Refused room fault
+abbrev pub Reported : PostingLists → Room → Result Listing ReportFault → List Extent → List Extent → Type 0
+Reported p room = Answers (quiet_reversals p) (report_calls p) room (report_fault p room)

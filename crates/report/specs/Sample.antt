@@ -5,7 +5,7 @@
 use Rattle.std.specs.Prelude.{◌≡◌, ◌-◌, ◌≤◌, List, [], ◌∷◌, replicate, Ok, Result}
 use Rattle.postings.specs.Lists.{PostingLists}
 use Rattle.extents.specs.declared.extent.Extent.{Extent}
-use Rattle.search.specs.declared.answer.Answer.{Answer}
+use Rattle.operators.specs.declared.listing.Listing.{Listing}
 use Rattle.search.specs.Law.{Room}
 use Rattle.search.specs.Searches.{blank}
 use Rattle.report.specs.declared.fault.ReportFault.{ReportFault}
@@ -17,7 +17,7 @@ pub record SampleLog (p : PostingLists) : Type 0 where
   pub alarms : p.slots alarm ≡ 4 ∷ 12 ∷ 18 ∷ []
   pub cuts : p.slots cut ≡ 15 ∷ []
 
-abbrev pub SampleHolds : PostingLists → Room → Result Answer ReportFault → List Extent → Type 0
+abbrev pub SampleHolds : PostingLists → Room → Result Listing ReportFault → List Extent → Type 0
 SampleHolds p room r stack =
     SampleLog p → 10 ≤ room.stack → 1 ≤ room.scratch
     → (r ≡ Ok (record { n = 1; calls = 30 })) × (stack ≡ record { start = 8; end = 11 } ∷ replicate (room.stack - 1) blank)

@@ -12,6 +12,7 @@ use postings::Postings;
 use search::fetch::fetch;
 
 // Where the extents of each name end in the area, and the calls that fetched them.
+// Stays: the area is lent, so a name's extents are told by where they end in it.
 #[derive(Clone, Copy)]
 pub(crate) struct Fetched {
     pub(crate) begins: usize,
@@ -21,6 +22,7 @@ pub(crate) struct Fetched {
     pub(crate) calls: u64,
 }
 
+// Stays: a store is read and an area is written, each lent by the caller.
 // Writes the slots of a name behind the extents fetched so far, and adds its calls to theirs.
 fn fetch_behind<P: Postings>(
     postings: &P,
@@ -29,17 +31,16 @@ fn fetch_behind<P: Postings>(
     stack: &mut [Extent],
 ) -> Result<Listing, ReportFault>
     requires { earlier.n ≤ length stack.old }
-    ensures { MatchResult result (λ l. IsBehind (points (P.Postings.lists postings.now) name.now) earlier.n earlier.calls stack.old stack.new l.n l.calls) (λ f. (f ≡ StackOver) × (length stack.old < earlier.n + length (points (P.Postings.lists postings.now) name.now))) }
+    ensures { let xs = points (P.lists postings.now) name.now in
+        MatchResult result (IsBehind xs earlier stack.old stack.new) (λ f. (f ≡ StackOver) × (length stack.old < earlier.n + length xs)) }
 {
     let used = earlier.n;
-    match fetch(postings, name, &mut stack[used..]) {
-        Ok(listing) => {
-            let n = used + listing.n;
-            let calls = earlier.calls.saturating_add(listing.calls);
-            Ok(Listing { n, calls })
-        }
-        Err(_) => Err(ReportFault::StackOver),
-    }
+    let fetched = fetch(postings, name, &mut stack[used..]);
+    let listing = fetched.map_err(|_| ReportFault::StackOver)?;
+    Ok(Listing {
+        n: used + listing.n,
+        calls: earlier.calls.saturating_add(listing.calls),
+    })
 }
 
 // Fetches the four names into the area.
@@ -47,7 +48,8 @@ pub(crate) fn fetch_names<P: Postings>(
     postings: &P,
     stack: &mut [Extent],
 ) -> Result<Fetched, ReportFault>
-    ensures { MatchResult result (λ f. IsFetched (P.Postings.lists postings.now) stack.new f) (λ f. (f ≡ StackOver) × (length stack.old < all_fetched (P.Postings.lists postings.now))) }
+    ensures { let lists = P.lists postings.now in
+        MatchResult result (IsFetched lists stack.new) (λ f. (f ≡ StackOver) × (length stack.old < all_fetched lists)) }
 {
     let none = Listing { n: 0, calls: 0 };
     let begins = fetch_behind(postings, b"[rev", none, stack)?;

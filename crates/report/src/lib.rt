@@ -1,7 +1,6 @@
 // The shift report: the reversals of a log in which neither an alarm nor a cut lies.
 #![tactic(auto)]
 
-mod area;
 pub mod fault;
 mod fetched;
 mod listing;

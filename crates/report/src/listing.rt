@@ -1,7 +1,5 @@
 // `[rev ; rev] !> (alarm | cut)` over four stored lists, as one composed source.
-ghost use Rattle.std.specs.Prelude.{◌≡◌, MatchResult};
-ghost use Rattle.extents.specs.Extents.{ExtentList};
-ghost use Rattle.operators.specs.Listing.{IsListed, IsOverfull};
+ghost use Rattle.operators.specs.Listing.{ListsTo};
 ghost use Rattle.report.specs.Quiet.{quiet_of};
 ghost use Rattle.report.specs.Law.{quiet_calls};
 
@@ -12,31 +10,19 @@ use extents::extent::Extent;
 use extents::stored::StoredList;
 use operators::listing::{Listing, Overfull, list_into};
 
-// The items as a source.
-fn stored<'a>(items: &'a [Extent]) -> StoredList<'a>
-    requires { ExtentList items.now }
-    ensures { result.items.now ≡ items.now }
-{
-    let mut list = StoredList::new();
-    let _ = list.fill(items);
-    list
-}
-
 // Lists the quiet reversals to the front of an area, as far as they fit.
 pub(crate) fn list_quiet(
-    begins: &[Extent],
-    ends: &[Extent],
-    alarms: &[Extent],
-    cuts: &[Extent],
+    begins: StoredList<'_>,
+    ends: StoredList<'_>,
+    alarms: StoredList<'_>,
+    cuts: StoredList<'_>,
     out: &mut [Extent],
 ) -> Result<Listing, Overfull>
-    requires { (ExtentList begins.now) × ((ExtentList ends.now) × ((ExtentList alarms.now) × (ExtentList cuts.now))) }
-    ensures { MatchResult result (λ l. IsListed (quiet_of begins.now ends.now alarms.now cuts.now) (quiet_calls begins.now ends.now alarms.now cuts.now) out.old out.new l.n l.calls) (λ _. IsOverfull (quiet_of begins.now ends.now alarms.now cuts.now) out.old out.new) }
+    ensures { let bs = begins.entry.items.now in let es = ends.entry.items.now in
+        let xs = alarms.entry.items.now in let ys = cuts.entry.items.now in
+        ListsTo (quiet_of bs es xs ys) (quiet_calls bs es xs ys) out.old out.new result }
 {
-    let begins = stored(begins);
-    let ends = stored(ends);
-    let alarms = stored(alarms);
-    let cuts = stored(cuts);
+    // Stays: the operators hold their operands by value, one in the other.
     let quiet = NotContaining {
         a: FollowedBy { a: begins, b: ends },
         b: OneOf { a: alarms, b: cuts },

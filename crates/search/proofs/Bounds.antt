@@ -1,19 +1,18 @@
 -- How many calls a query makes at most. Assumes nothing.
 use Rattle.std.proofs.Common.{◌≡◌, ℕ, ◌+◌, ◌≤◌, List, [], ◌∷◌, length, arith}
 use Rattle.extents.specs.declared.extent.Extent.{Extent}
-use Rattle.extents.specs.declared.access.Access.TheVariants.{FirstStart}
-use Rattle.extents.specs.Counts.{capped}
 use Rattle.operators.specs.Listing.{list_calls}
 use Rattle.operators.proofs.Lawful.{operator_few}
 use Rattle.postings.specs.Lists.{Lawful}
 use Rattle.query.specs.Expressions.{Expr, name, windows, runs, apply}
 use Rattle.search.specs.Meaning.{Log, listed}
-use Rattle.search.specs.Law.{each_one, operand_calls, query_calls, most_calls}
+use Rattle.search.specs.Law.{each_one, operand_calls, query_calls, most_calls, TakesFewCalls}
 use Rattle.search.proofs.Sets.{meaning_listed}
 
-ones : (xs : List Extent) (k : ℕ) → list_calls (each_one FirstStart) k xs ≡ length xs + 1
-ones [] k = omega arith
-ones (x ∷ xs) k = omega (arith, ones xs (x.start + 1))
+-- one call for each extent, and one more
+pub list_calls-one : (xs : List Extent) (k : ℕ) → list_calls (λ j. 1) k xs ≡ length xs + 1
+list_calls-one [] k = omega arith
+list_calls-one (x ∷ xs) k = omega (arith, list_calls-one xs (x.start + 1))
 
 operand_few : (log : Log) → Lawful log.lists → (e : Expr) → operand_calls log e ≤ most_calls log e
 operand_few log law (name n at) = omega arith
@@ -25,9 +24,9 @@ operand_few log law (apply op at l r) =
 
 whole_few : (log : Log) → Lawful log.lists → (e : Expr) → query_calls log e ≤ most_calls log e
 whole_few log law (name n at) = operand_few log law (name n at)
-whole_few log law (windows n at) = omega (arith, ones (listed log (windows n at)) 0)
-whole_few log law (runs d at) = omega (arith, ones (listed log (runs d at)) 0)
+whole_few log law (windows n at) = omega (arith, list_calls-one (listed log (windows n at)) 0)
+whole_few log law (runs d at) = omega (arith, list_calls-one (listed log (runs d at)) 0)
 whole_few log law (apply op at l r) = operand_few log law (apply op at l r)
 
-pub query_few : (log : Log) → Lawful log.lists → (e : Expr) → capped (query_calls log e) ≤ most_calls log e
+pub query_few : (log : Log) → Lawful log.lists → TakesFewCalls log
 query_few log law e = omega (arith, whole_few log law e)

@@ -1,10 +1,8 @@
 pub mod Trees
-pub mod Writes
 pub mod Points
 pub mod Heaps
 pub mod Steps
 pub mod Loops
-pub mod Finals
 pub mod Clears
 pub mod Tells
 pub mod Sets

@@ -1,31 +1,24 @@
 -- A run underway. Assumes nothing.
-use Rattle.std.proofs.Common.{◌≡◌, ℕ, zero, suc, ◌+◌, ◌<◌, ◌≤◌, List, [], ◌∷◌, length, drop, replicate, Some, None, Ok, Err, Option, Result, sym, refl, ap, ◌∙◌, subst, arith}
-use Rattle.std.specs.List.{slice_get}
-use Rattle.std.proofs.lemmas.List.{drop_all}
+use Rattle.std.proofs.Common.{◌≡◌, ℕ, ◌+◌, ◌<◌, ◌≤◌, List, [], ◌∷◌, length, get_or, drop, map, Some, None, Ok, Err, Option, Result, sym, refl, ap, ◌∙◌, subst, arith}
+use Rattle.std.proofs.lemmas.List.{drop-map, drop_more, drop_all}
+use Rattle.arrayvec.specs.ArrayVec.{array_vec_len}
 use Rattle.extents.specs.declared.extent.Extent.{Extent}
+use Rattle.query.specs.declared.query.Step.{Step}
+use Rattle.query.specs.Queries.{shown}
 use Rattle.query.specs.Terminals.{Terminal, ident, hash, atsign, operator, opens, closes, ends, Placed}
 use Rattle.search.specs.declared.fault.SearchFault.{SearchFault}
-use Rattle.search.specs.declared.operand.Operand.TheVariants.{Stored}
 use Rattle.search.specs.declared.operand_stack.OperandStack.{OperandStack}
 use Rattle.search.specs.Meaning.{Log}
 use Rattle.search.specs.Law.{Room}
 use Rattle.search.specs.Run.{Pending, wide, hot, Outcome, done, refused, unless, after, step, run, Fits, FitsWord, then_wait}
-use Rattle.search.specs.Stacks.{Stacked, SomeStacked, Answers, Ran}
+use Rattle.search.specs.Stacks.{Stacked, Answers, Ran}
+use Rattle.search.proofs.Heaps.{depth_is, used_is}
 
-nth_drop : (ts : List Placed) (i : ℕ) (t : Placed) → slice_get ts i ≡ Some t → drop i ts ≡ t ∷ drop (i + 1) ts
-nth_drop [] i t e = let z : ◌≡◌ {A = ℕ} 0 1 = cc in absurd (omega arith)
-nth_drop (s ∷ ts) zero t e = let k : s ≡ t = cc in ap (λ v. v ∷ ts) k
-nth_drop (s ∷ ts) (suc i) t e = let k : suc (i + 1) ≡ suc i + 1 = omega arith in nth_drop ts i t e ∙ ap (λ v. t ∷ drop v (s ∷ ts)) k
-
-pub nth_none : (ts : List Placed) (i : ℕ) → slice_get ts i ≡ None → length ts ≤ i
-nth_none [] i e = omega arith
-nth_none (s ∷ ts) zero e = let z : ◌≡◌ {A = ℕ} 0 1 = cc in absurd (omega arith)
-nth_none (s ∷ ts) (suc i) e = omega (arith, nth_none ts i e)
-
-pub nth_some : (ts : List Placed) (i : ℕ) (t : Placed) → slice_get ts i ≡ Some t → i < length ts
-nth_some [] i t e = let z : ◌≡◌ {A = ℕ} 0 1 = cc in absurd (omega arith)
-nth_some (s ∷ ts) zero t e = omega arith
-nth_some (s ∷ ts) (suc i) t e = omega (arith, nth_some ts i t e)
+-- the step that comes next
+pub next_step : (items : List Step) (i : ℕ) (d : Step) (ts : List Placed) → map shown items ≡ ts → i < length items → drop i ts ≡ shown (get_or items i d) ∷ drop (i + 1) ts
+next_step items i d ts e h =
+    subst (λ v. drop i v ≡ shown (get_or items i d) ∷ drop (i + 1) v) e
+    (drop-map shown i items ∙ ap (map shown) (drop_more items i d h) ∙ ap (λ v. shown (get_or items i d) ∷ v) (sym (drop-map shown (i + 1) items)))
 
 -- i steps are done: what is left comes to what the whole comes to
 pub record Underway (log : Log) (scr : List Extent) (ts : List Placed) (i : ℕ) (was area scr₀ : List Extent) (waiting : OperandStack) : Type 0 where
@@ -37,11 +30,11 @@ pub record Underway (log : Log) (scr : List Extent) (ts : List Placed) (i : ℕ)
   pub same : run log (record { stack = length was; scratch = length scr₀ }) (drop i ts) ps c ≡ run log (record { stack = length was; scratch = length scr₀ }) ts [] 0
   pub fits : Fits (drop i ts) (length ps)
 
-pub underway_none : (log : Log) (scr : List Extent) (ts : List Placed) (area : List Extent) (waiting : OperandStack) → waiting ≡ record { operands = replicate 32 (Stored 0); depth = 0; used = 0; calls = 0 } → Fits ts 0 → Underway log scr ts 0 area area scr waiting
-underway_none log scr ts area waiting e f = record {
+pub underway_none : (log : Log) (scr : List Extent) (ts : List Placed) (area : List Extent) (waiting : OperandStack) → waiting.operands.items ≡ [] → waiting.calls ≡ 0 → Fits ts 0 → Underway log scr ts 0 area area scr waiting
+underway_none log scr ts area waiting e k f = record {
   ps = [];
   c = 0;
-  stacked = subst (λ v. Stacked v area [] 0) (sym e) (record { wide = refl; depth = refl; used = refl; calls = refl; deep = omega arith; fits = omega arith; lies = tt });
+  stacked = record { items = e; used = used_is waiting [] e; calls = k; deep = omega (arith, ap length e); fits = omega arith; lies = tt };
   long = refl;
   long₂ = refl;
   same = refl;
@@ -53,6 +46,13 @@ err_ok q = let z : ◌≡◌ {A = ℕ} 0 1 = cc in omega arith
 
 stack_err : (x y : SearchFault) → ◌≡◌ {A = Result (Unit {0}) SearchFault} (Err x) (Err y) → ◌≡◌ {A = Result OperandStack SearchFault} (Err x) (Err y)
 stack_err x y e = let i : x ≡ y = cc in ap Err i
+
+pub ran_one : (o : Outcome) (w : OperandStack) (area : List Extent) → Ran o (Ok w) area → 0 < array_vec_len w.operands
+ran_one (done ps c) w area r =
+    let p = r.1 in
+    let i : r.0 ≡ w = cc in
+    subst (λ v. 0 < array_vec_len v.operands) i (omega (arith, depth_is r.2, r.3))
+ran_one (refused f) w area r = let z : ◌≡◌ {A = ℕ} 0 1 = cc in absurd (omega arith)
 
 -- how many wait after a step
 unless_done : (f : Option SearchFault) (ps qs : List Pending) (c k : ℕ) → unless f (done ps c) ≡ done qs k → ps ≡ qs
@@ -82,15 +82,15 @@ module _ {log : Log} {scr : List Extent} {ts : List Placed} {i : ℕ} {was area 
       let f : length u.ps ≡ 1 = subst (λ v. Fits v (length u.ps)) d u.fits in
       subst (λ v. Ran v (Ok waiting) area) s (waiting, refl, u.stacked, f)
 
-  module _ (t : Placed) (l : slice_get ts i ≡ Some t) where
+  module _ (t : Placed) (l : drop i ts ≡ t ∷ drop (i + 1) ts) where
     abbrev rest : List Placed
     rest = drop (i + 1) ts
 
     fits_now : Fits (t ∷ rest) (length u.ps)
-    fits_now = subst (λ v. Fits v (length u.ps)) (nth_drop ts i t l) u.fits
+    fits_now = subst (λ v. Fits v (length u.ps)) l u.fits
 
-    pub underway_can : SomeStacked waiting area × FitsWord t.0 waiting.depth
-    underway_can = (record { waits = u.ps; count = u.c; stacked = u.stacked }, subst (FitsWord t.0) (sym u.stacked.depth) fits_now.0)
+    pub underway_can : FitsWord t.0 (array_vec_len waiting.operands)
+    underway_can = subst (FitsWord t.0) (sym (depth_is u.stacked)) fits_now.0
 
     module _ (r : Result (Unit {0}) SearchFault) (waiting' : OperandStack) (area' scr' : List Extent)
         (f : (ps : List Pending) (c : ℕ) → Stacked waiting area ps c → Answers (step log (record { stack = length area; scratch = length scr }) t.0 t.1 ps c) r waiting' area') where
@@ -104,7 +104,7 @@ module _ {log : Log} {scr : List Extent} {ts : List Placed} {i : ℕ} {was area 
 
       goes_on : after o (run log room rest) ≡ run log room ts [] 0
       unfolding run
-      goes_on = subst (λ v. run log room v u.ps u.c ≡ run log room ts [] 0) (nth_drop ts i t l) u.same
+      goes_on = subst (λ v. run log room v u.ps u.c ≡ run log room ts [] 0) l u.same
 
       more : (p : Outcome) → o ≡ p → Answers p r waiting' area' → after p (run log room rest) ≡ run log room ts [] 0 → r ≡ Ok tt → length area' ≡ length area → length scr' ≡ length scr → Underway log scr' ts (i + 1) was area' scr₀ waiting'
       more (done qs k) e a s y l₁ l₂ = record {

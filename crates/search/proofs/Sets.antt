@@ -1,16 +1,16 @@
 -- The list of an expression has exactly its set. Assumes nothing.
-use Rattle.std.proofs.Common.{◌≡◌, ℕ, List, [], ◌∷◌, map, refl, ap, ◌∙◌, inl, inr, ⊎_elim, arith}
+use Rattle.std.proofs.Common.{◌≡◌, ℕ, List, [], ◌∷◌, map, refl, ap, ◌∙◌, inl, inr, ⊎_elim}
 use Rattle.extents.specs.declared.extent.Extent.{Extent}
 use Rattle.extents.specs.declared.operator.Operator.{Operator}
 use Rattle.extents.specs.declared.operator.Operator.TheVariants.{ContainedIn, NotContainedIn, Containing, NotContaining, BothOf, OneOf, FollowedBy}
 use Rattle.extents.specs.Extents.{Mem}
-use Rattle.extents.specs.Regions.{SomeIn, Least, operator_set, Members, Lists}
+use Rattle.extents.specs.Regions.{SomeIn, Least, operator_set, Members}
 use Rattle.extents.specs.Runs.{runs_listed}
 use Rattle.extents.specs.WindowLists.{windows_listed}
 use Rattle.operators.proofs.Sets.{operator_listed}
 use Rattle.postings.specs.Lists.{Lawful}
-use Rattle.query.specs.Expressions.{Expr, name, windows, runs, apply}
-use Rattle.search.specs.Meaning.{Log, point, Among, denotes, listed}
+use Rattle.query.specs.Expressions.{name, windows, runs, apply}
+use Rattle.search.specs.Meaning.{Log, point, Among, denotes, listed, MeansItsSet}
 use Rattle.search.proofs.Points.{points_rise}
 
 -- what an operator makes of sets hangs on their members alone
@@ -46,9 +46,9 @@ point_to : (ss : List ℕ) (s : ℕ) (e : Extent) → Among s ss → e ≡ point
 point_to [] s e a i = absurd a
 point_to (t ∷ ss) s e a i = ⊎_elim (λ j. inl (i ∙ ap point j)) (λ b. inr (point_to ss s e b i)) a
 
-pub meaning_listed : (log : Log) → Lawful log.lists → (e : Expr) → Lists (denotes log e) (listed log e)
+pub meaning_listed : (log : Log) → Lawful log.lists → MeansItsSet log
 meaning_listed log law (name n at) = (
-  points_rise (log.lists.slots n) (law.rising n) (λ i l. omega (arith, law.below n i l, law.short)),
+  points_rise log.lists law n,
   λ e. (point_from (log.lists.slots n) e, λ h. point_to (log.lists.slots n) h.0 e h.1 h.2),
 )
 meaning_listed log law (windows n at) = windows_listed (record { width = n; length = log.lists.span })

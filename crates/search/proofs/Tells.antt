@@ -2,13 +2,13 @@
 use Rattle.std.proofs.Common.{◌≡◌, ℕ, ◌+◌, ◌<◌, ◌≤◌, List, [], ◌∷◌, length, Some, None, Ok, Err, Option, Result, sym, refl, ap, ◌∙◌, subst, inl, inr, arith}
 use Rattle.std.proofs.lemmas.Bool.{lt-ltb, le-ltb}
 use Rattle.extents.specs.declared.extent.Extent.{Extent}
+use Rattle.operators.specs.declared.listing.Listing.{Listing}
 use Rattle.query.specs.declared.fault.ReadFault.{ReadFault}
 use Rattle.query.specs.declared.query.Query.{Query}
 use Rattle.query.specs.Answers.{Answered, Complete, Leftmost}
 use Rattle.query.specs.Expressions.{Expr, name, windows, runs, apply, postfix}
 use Rattle.query.specs.Outcomes.{Refuses}
 use Rattle.query.specs.Queries.{steps}
-use Rattle.search.specs.declared.answer.Answer.{Answer}
 use Rattle.search.specs.declared.fault.SearchFault.{SearchFault}
 use Rattle.search.specs.declared.fault.SearchFault.TheVariants.{Read, TraceOver}
 use Rattle.search.specs.declared.operand_stack.OperandStack.{OperandStack}
@@ -27,18 +27,15 @@ module _ (log : Log) (room : Room) (text : List ℕ) (area : List Extent) where
     either = inr (f, h);
   }
 
-  pub read_tells : (q : Query) (r : Result Answer SearchFault) → Answered text q → Complete text (Ok q) → Leftmost text (Ok q) → ((e : Expr) → steps q ≡ postfix e → Told (listed log e) (query_calls log e) (search_fault log room e) r area) → Telling log room text r area
+  pub read_tells : (q : Query) (r : Result Listing SearchFault) → Answered text q → Complete text (Ok q) → Leftmost text (Ok q) → ((e : Expr) → steps q ≡ postfix e → Told (listed log e) (query_calls log e) (search_fault log room e) r area) → Telling log room text r area
   read_tells q r a complete leftmost k = record {
     query = λ e h. k e (complete e h);
     misread = λ f h. let p = leftmost f h in let z : ◌≡◌ {A = ℕ} 0 1 = cc in absurd (omega arith);
     either = inl (a.expr, a.reads);
   }
 
-pub answered_fits : (text : List ℕ) (q : Query) → Answered text q → Fits (steps q) 0 × (length (steps q) ≤ 63)
-answered_fits text q a = (
-  subst (λ v. Fits v 0) (sym a.order) (fits_expr a.expr a.bounded.few),
-  omega (arith, ap length a.order, a.bounded.long, a.bounded.few),
-)
+pub answered_fits : (text : List ℕ) (q : Query) → Answered text q → Fits (steps q) 0
+answered_fits text q a = subst (λ v. Fits v 0) (sym a.order) (fits_expr a.expr a.bounded.few)
 
 module _ (log : Log) (room : Room) (e : Expr) where
   pub trace_tells : (area : List Extent) → log.lists.span < length log.trace → Told (listed log e) (query_calls log e) (search_fault log room e) (Err TraceOver) area
@@ -67,5 +64,5 @@ module _ (log : Log) (room : Room) (e : Expr) where
       whole (runs n at) h = let z : ◌≡◌ {A = ℕ} 0 1 = cc in absurd (omega arith)
       whole (apply o at a b) h = h
 
-  pub end_tells : (r : Result Answer SearchFault) (area : List Extent) → length log.trace ≤ log.lists.span → Told (listed log e) (query_calls log e) (query_fault log room e) r area → Told (listed log e) (query_calls log e) (search_fault log room e) r area
+  pub end_tells : (r : Result Listing SearchFault) (area : List Extent) → length log.trace ≤ log.lists.span → Told (listed log e) (query_calls log e) (query_fault log room e) r area → Told (listed log e) (query_calls log e) (search_fault log room e) r area
   end_tells r area l t = subst (λ v. Told (listed log e) (query_calls log e) v r area) (sym (trace_fits l)) t

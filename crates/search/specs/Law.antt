@@ -2,6 +2,7 @@
 -- operator. Assumes nothing.
 --
 --   Room                    how many extents the stack area and the scratch area hold
+--   room stack scratch      how many these two areas hold
 --   first_of                the first of two faults, if there is one
 --   stacking base n at      n more extents over `base` stored ones, at the token's place
 --   listing base n at       the same, listed to the scratch area first
@@ -15,7 +16,9 @@
 --   operand_calls           the calls of an operand: a next for each slot of a name and one more, and each operator's listing
 --   query_calls             the calls of a whole query
 --   most_calls              a + 1 for each name, `#` or `@` of a extents, and 4 (a + b + 1) for each operator over a and b extents
-use Rattle.std.specs.Prelude.{ℕ, ◌+◌, ◌*◌, cond, List, length, Some, None, Option, nat_lt}
+--   TakesFewCalls log       no query's count is above its most_calls
+use Rattle.std.specs.Prelude.{ℕ, ◌+◌, ◌*◌, ◌≤◌, cond, List, length, Some, None, Option, nat_lt}
+use Rattle.extents.specs.Counts.{capped}
 use Rattle.extents.specs.declared.access.Access.{Access}
 use Rattle.extents.specs.declared.access.Access.TheVariants.{FirstStart}
 use Rattle.extents.specs.declared.extent.Extent.{Extent}
@@ -30,6 +33,9 @@ use Rattle.search.specs.Meaning.{Log, listed}
 pub record Room : Type 0 where
   pub stack : ℕ
   pub scratch : ℕ
+
+abbrev pub room : List Extent → List Extent → Room
+room stack scratch = record { stack = length stack; scratch = length scratch }
 
 abbrev pub first_of : Option SearchFault → Option SearchFault → Option SearchFault
 first_of None g = g
@@ -91,3 +97,6 @@ most_calls log (name n at) = length (listed log (name n at)) + 1
 most_calls log (windows n at) = length (listed log (windows n at)) + 1
 most_calls log (runs d at) = length (listed log (runs d at)) + 1
 most_calls log (apply op at l r) = most_calls log l + most_calls log r + 4 * (length (listed log l) + length (listed log r) + 1)
+
+abbrev pub TakesFewCalls : Log → Type 0
+TakesFewCalls log = (e : Expr) → capped (query_calls log e) ≤ most_calls log e

@@ -5,10 +5,12 @@
 --   Among s ss     s is one of the slots ss
 --   denotes log e  the set of extents that the expression e describes
 --   listed log e   the same as a list
+--   over lists trace   a log of these postings and this trace
+--   MeansItsSet log    every expression's list is its set
 use Rattle.std.specs.Prelude.{◌≡◌, ℕ, ◌⊎◌, List, [], ◌∷◌, map, ℤ}
 use Rattle.postings.specs.Lists.{PostingLists}
 use Rattle.extents.specs.declared.extent.Extent.{Extent}
-use Rattle.extents.specs.Regions.{operator_set}
+use Rattle.extents.specs.Regions.{operator_set, Lists}
 use Rattle.extents.specs.Trace.{hots, IsRun, runs_of}
 use Rattle.extents.specs.Windows.{IsWindow, windows_of}
 use Rattle.operators.specs.Operators.{operator_list}
@@ -17,6 +19,9 @@ use Rattle.query.specs.Expressions.{Expr, name, windows, runs, apply}
 pub record Log : Type 0 where
   pub lists : PostingLists
   pub trace : List ℤ
+
+abbrev pub over : PostingLists → List ℤ → Log
+over lists trace = record { lists = lists; trace = trace }
 
 abbrev pub point : ℕ → Extent
 point s = record { start = s; end = s }
@@ -37,3 +42,6 @@ listed log (name n at) = map point (log.lists.slots n)
 listed log (windows n at) = windows_of (record { width = n; length = log.lists.span })
 listed log (runs d at) = runs_of d log.trace
 listed log (apply op at l r) = operator_list op (listed log l) (listed log r)
+
+abbrev pub MeansItsSet : Log → Type 0
+MeansItsSet log = (e : Expr) → Lists (denotes log e) (listed log e)

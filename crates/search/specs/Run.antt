@@ -1,10 +1,19 @@
 -- Inner: the steps of a query, one after the other. No contract that another crate sees names these. Assumes nothing.
 --
+--   known slots span trace   a log whose names have these slots
 --   Pending       what waits for its operator: a stored list, or a `#` or `@` that is not stored
+--   extents_in, extents_of   the extents of what waits, over a span and a trace; over a log
+--   kept, noted   what is stored of it; how it is written down
+--   seen, size    what is written down, over what is stored of it; how many extents that is
 --   filled        how many extents are stored
 --   Outcome       what waits and the calls so far, or a fault
+--   unless, after   an outcome if there is no fault; what comes after an outcome that is no fault
+--   operate, operate_on   an operator over two that wait; over the two on top
 --   step, run     one step; the steps in turn
+--   FitsWord, then_wait   at a step, where so many wait: it has its operands and room; how many wait after it
 --   Fits          every operator has its two operands, never more than 32 wait, and one is left
+--   pending       what an expression leaves waiting
+--   first_place   where the first token begins
 use Rattle.std.specs.Prelude.{◌≡◌, ℕ, ◌+◌, ◌-◌, ◌<◌, ◌≤◌, List, [], ◌∷◌, map, length, ℤ, Some, None, Option}
 use Rattle.extents.specs.declared.extent.Extent.{Extent}
 use Rattle.extents.specs.declared.operator.Operator.{Operator}
@@ -18,6 +27,9 @@ use Rattle.search.specs.declared.operand.Operand.TheVariants as code
 use Rattle.query.specs.Expressions.{Expr, name, windows, runs, apply}
 use Rattle.search.specs.Meaning.{Log, point, listed}
 use Rattle.search.specs.Law.{Room, stacking, listing, operator_listing}
+
+abbrev pub known : (List ℕ → List ℕ) → ℕ → List ℤ → Log
+known slots span trace = record { lists = record { slots = slots; span = span }; trace = trace }
 
 pub data Pending : Type 0 where
   stored : List Extent → Pending

@@ -1,22 +1,27 @@
 // One step of a query.
-ghost use Rattle.std.specs.Prelude.{◌≡◌, ℕ, ◌^◌, ◌<◌, ◌≤◌, List, [], ◌∷◌, length, ℤ};
-ghost use Rattle.extents.specs.declared.extent.Extent.{Extent};
+ghost use Rattle.std.specs.Prelude.{◌≡◌, ℕ, ◌+◌, ◌<◌, ◌≤◌, List, length, ℤ};
+ghost use Rattle.arrayvec.specs.ArrayVec.{array_vec_len};
 ghost use Rattle.query.specs.Terminals.{ident, operator as operates};
 ghost use Rattle.query.specs.Queries.{shown};
-ghost use Rattle.search.specs.Run.{Pending, noted, kept, step as outcome, FitsWord};
-ghost use Rattle.search.specs.Stacks.{Stacked, SomeStacked, Answers};
+ghost use Rattle.search.specs.Law.{room};
+ghost use Rattle.search.specs.Run.{known, FitsWord};
+ghost use Rattle.search.specs.Sides.{side_list};
+ghost use Rattle.search.specs.Stacks.{SomeStacked, TakesOff, Steps};
 
 use super::fault::SearchFault;
 use super::fetch::fetch;
-use super::join::{Log, Side, join};
+use super::join::join;
+use super::log::Log;
 use super::operand::Operand;
 use super::operand_stack::OperandStack;
+use super::side::Side;
 use extents::extent::Extent;
 use extents::operator::Operator;
 use postings::Postings;
 use query::query::{Action, Step};
 
 // Stores the slots of a name.
+// Stays: a struct of what waits and both areas would be taken apart at each step: one area is read while the other is written.
 fn put_name<P: Postings>(
     postings: &P,
     name: &[u8],
@@ -24,25 +29,30 @@ fn put_name<P: Postings>(
     waiting: &mut OperandStack,
     stack: &mut [Extent],
 ) -> Result<(), SearchFault>
-    requires { (SomeStacked waiting.old stack.old) × (waiting.old.depth < 32) }
-    ensures { (scratch span : ℕ) (trace : List ℤ) (ps : List Pending) (c : ℕ) → Stacked waiting.old stack.entry.now ps c → Answers (outcome (record { lists = record { slots = (P.Postings.lists postings.now).slots; span = span }; trace = trace }) (record { stack = length stack.entry.now; scratch = scratch }) (ident name.now) place ps c) result waiting.new stack.exit.now }
+    requires stacked { SomeStacked waiting.old stack.old }
+    requires fits { array_vec_len waiting.old.operands < 32 }
+    ensures { (scratch span : ℕ) (trace : List ℤ)
+        → Steps (known (P.lists postings.now).slots span trace) (record { stack = length stack.old; scratch = scratch }) (ident name.now) place
+        waiting.old stack.old result waiting.new stack.new }
 {
     let used = waiting.used;
-    match fetch(postings, name, &mut stack[used..]) {
-        Ok(listing) => {
-            waiting.push(Operand::Stored(listing.n), listing.calls);
-            Ok(())
-        }
-        Err(_) => Err(SearchFault::StackOver(place)),
-    }
+    let fetched = fetch(postings, name, &mut stack[used..]);
+    let listing = fetched.map_err(|_| SearchFault::StackOver(place))?;
+    waiting.push(Operand::Stored(listing.n), listing.calls);
+    Ok(())
 }
 
-// Lets an operand wait of which nothing is stored.
-fn put_lazy(operand: Operand, waiting: &mut OperandStack)
-    requires { (waiting.old.depth < 32) × ((waiting.old.used < 2 ^ 64) × (((p : Pending) × (operand ≡ noted p) × (kept p ≡ [])))) }
-    ensures { (area : List Extent) (ps : List Pending) (c : ℕ) (p : Pending) → operand ≡ noted p → kept p ≡ [] → Stacked waiting.old area ps c → Stacked waiting.new area (p ∷ ps) c }
+// The operand on top as a source, which waits no more.
+fn take_off<'a>(waiting: &mut OperandStack, stack: &'a [Extent], log: Log<'a>) -> Side<'a>
+    requires stacked { SomeStacked waiting.old stack.now }
+    requires waits { 1 ≤ array_vec_len waiting.old.operands }
+    ensures top { TakesOff log.entry.span log.entry.trace.now waiting.old stack.now (side_list result) waiting.new }
+    ensures rest { SomeStacked waiting.new stack.now }
+    ensures less { array_vec_len waiting.new.operands + 1 ≡ array_vec_len waiting.old.operands }
 {
-    waiting.push(operand, 0);
+    let end = waiting.used;
+    let operand = waiting.pop();
+    Side::new(operand, &stack[waiting.used..end], log)
 }
 
 // Lists an operator over the two operands on top, and stores its list in their place.
@@ -54,25 +64,17 @@ fn put_operator(
     stack: &mut [Extent],
     scratch: &mut [Extent],
 ) -> Result<(), SearchFault>
-    requires { (SomeStacked waiting.old stack.old) × (2 ≤ waiting.old.depth) }
-    ensures { (slots : List ℕ → List ℕ) (ps : List Pending) (c : ℕ) → Stacked waiting.old stack.entry.now ps c → Answers (outcome (record { lists = record { slots = slots; span = log.entry.span }; trace = log.entry.trace.now }) (record { stack = length stack.entry.now; scratch = length scratch.old }) (operates operator) place ps c) result waiting.new stack.exit.now }
+    requires stacked { SomeStacked waiting.old stack.old }
+    requires fits { 2 ≤ array_vec_len waiting.old.operands }
+    ensures { (slots : List ℕ → List ℕ)
+        → Steps (known slots log.entry.span log.entry.trace.now) (room stack.old scratch.old) (operates operator) place
+        waiting.old stack.old result waiting.new stack.new }
 {
-    let end = waiting.used;
-    let right = waiting.pop();
-    let middle = waiting.used;
-    let left = waiting.pop();
+    let right = take_off(waiting, stack, log);
+    let left = take_off(waiting, stack, log);
+    let listed = join(operator, left, right, scratch);
+    let listing = listed.map_err(|_| SearchFault::ListingOver(place))?;
     let base = waiting.used;
-    let left = Side {
-        operand: left,
-        items: &stack[base..middle],
-    };
-    let right = Side {
-        operand: right,
-        items: &stack[middle..end],
-    };
-    let Ok(listing) = join(operator, left, right, log, scratch) else {
-        return Err(SearchFault::ListingOver(place));
-    };
     let n = listing.n;
     if stack.len() - base < n {
         return Err(SearchFault::StackOver(place));
@@ -92,17 +94,20 @@ pub(crate) fn put<P: Postings>(
     stack: &mut [Extent],
     scratch: &mut [Extent],
 ) -> Result<(), SearchFault>
-    requires { (SomeStacked waiting.old stack.old) × (FitsWord (shown step).0 waiting.old.depth) }
-    ensures { (ps : List Pending) (c : ℕ) → Stacked waiting.old stack.entry.now ps c → Answers (outcome (record { lists = record { slots = (P.Postings.lists postings.now).slots; span = log.entry.span }; trace = log.entry.trace.now }) (record { stack = length stack.entry.now; scratch = length scratch.old }) (shown step.entry).0 step.entry.place ps c) result waiting.new stack.exit.now }
+    requires stacked { SomeStacked waiting.old stack.old }
+    requires fits { FitsWord (shown step).0 (array_vec_len waiting.old.operands) }
+    ensures { let log = known (P.lists postings.now).slots log.entry.span log.entry.trace.now in
+        Steps log (room stack.old scratch.old) (shown step.entry).0 step.entry.place waiting.old stack.old result waiting.new stack.new }
 {
+    // Stays: each action does another thing.
     match step.action {
         Action::Name(name) => put_name(postings, name, step.place, waiting, stack),
         Action::Windows(width) => {
-            put_lazy(Operand::Windows(width), waiting);
+            waiting.push(Operand::Windows(width), 0);
             Ok(())
         }
         Action::Runs(degrees) => {
-            put_lazy(Operand::Runs(degrees), waiting);
+            waiting.push(Operand::Runs(degrees), 0);
             Ok(())
         }
         Action::Apply(operator) => put_operator(operator, step.place, log, waiting, stack, scratch),

@@ -4,8 +4,10 @@ ghost use Rattle.search.specs.declared.fault.SearchFault.TheVariants.{Read as he
 ghost use Rattle.search.specs.Faults.{search_refusal};
 
 use query::fault::ReadFault;
+use std::error::Error;
+use std::fmt;
 
-#[derive(Clone, Copy)]
+#[derive(Clone, Copy, Debug, PartialEq, Eq)]
 pub enum SearchFault {
     // The text is no query.
     Read(ReadFault),
@@ -27,6 +29,7 @@ impl From<ReadFault> for SearchFault {
 
 impl SearchFault {
     // The fault's number.
+    // Stays: one match for all cases, as their one definition has it; cases with a place have no discriminant.
     pub fn number(&self) -> u8
         ensures { result ≡ (search_refusal self.now).0 }
     {
@@ -50,3 +53,18 @@ impl SearchFault {
         }
     }
 }
+
+// Stays: thiserror derives it without a contract, and no trait of refusals can give it to them all.
+impl fmt::Display for SearchFault {
+    ghost use Rattle.std.specs.Prelude.{Some};
+    ghost use Rattle.extents.specs.Refusals.{refused_at};
+    ghost use Rattle.search.specs.Faults.{search_refusal};
+
+    ghost output = { λ f. Some (refused_at (search_refusal f).0 (search_refusal f).1) };
+
+    fn fmt<W: fmt::Write>(&self, f: &mut fmt::Formatter<W>) -> fmt::Result {
+        write!(f, "refused {} at {}", self.number(), self.place())
+    }
+}
+
+impl Error for SearchFault {}

@@ -1,58 +1,50 @@
 // The end of a query: its one operand that is left.
-ghost use Rattle.std.specs.Prelude.{◌≡◌, ℕ, ◌+◌, List, [], ◌∷◌, length, None};
+ghost use Rattle.std.specs.Prelude.{◌≡◌, ℕ, ◌<◌, List, length, None};
+ghost use Rattle.arrayvec.specs.ArrayVec.{array_vec_len};
 ghost use Rattle.extents.specs.declared.access.Access.TheVariants.{FirstStart};
 ghost use Rattle.operators.specs.Listing.{list_calls};
 ghost use Rattle.query.specs.Expressions.{Expr, postfix};
 ghost use Rattle.query.specs.Queries.{steps};
-ghost use Rattle.search.specs.Law.{listing, operand_fault, operand_calls, query_fault, query_calls};
-ghost use Rattle.search.specs.Meaning.{listed};
-ghost use Rattle.search.specs.Run.{pending, first_place};
-ghost use Rattle.search.specs.Stacks.{Stacked};
-ghost use Rattle.search.specs.Told.{Told};
+ghost use Rattle.search.specs.Law.{room, listing, each_one, operand_fault};
+ghost use Rattle.search.specs.Run.{known, first_place};
+ghost use Rattle.search.specs.Sides.{side_list};
+ghost use Rattle.search.specs.Stacks.{IsLeft};
+ghost use Rattle.search.specs.Told.{Told, IsTold};
 
-use super::answer::Answer;
 use super::fault::SearchFault;
-use super::join::Log;
+use super::log::Log;
 use super::operand::Operand;
 use super::operand_stack::OperandStack;
+use super::side::Side;
 use extents::extent::Extent;
-use extents::source::Source;
-use extents::trace::TraceRuns;
-use extents::windows::Windows;
-use operators::listing::list_into;
+use operators::listing::Listing;
 use query::query::Query;
 
 // Where the first token of a query begins.
 fn first_place(query: &Query<'_>) -> usize
     ensures { result ≡ first_place (steps query.now) }
 {
-    match query.step(0) {
-        Some(step) => step.place,
-        None => 0,
-    }
+    query.steps().first().map_or(0, |step| step.place)
 }
 
-// Lists a source that is the whole query, and stores its list.
-fn list_alone<S: Source>(
-    source: &S,
+// Lists an operand that is the whole query, and stores its list.
+fn list_alone(
+    side: Side<'_>,
     place: usize,
     stack: &mut [Extent],
     scratch: &mut [Extent],
-) -> Result<Answer, SearchFault>
-    ensures { Told (S.Source.extents source.now) (list_calls (S.Source.calls source.now FirstStart) 0 (S.Source.extents source.now)) (listing (record { stack = length stack.entry.now; scratch = length scratch.old }) 0 (length (S.Source.extents source.now)) place) result stack.exit.now }
+) -> Result<Listing, SearchFault>
+    ensures { let xs = side_list side.entry in
+        Told xs (list_calls (each_one FirstStart) 0 xs) (listing (room stack.old scratch.old) 0 (length xs) place) result stack.new }
 {
-    let Ok(listing) = list_into(source, scratch) else {
-        return Err(SearchFault::ListingOver(place));
-    };
+    let listed = side.list(scratch);
+    let listing = listed.map_err(|_| SearchFault::ListingOver(place))?;
     let n = listing.n;
     if stack.len() < n {
         return Err(SearchFault::StackOver(place));
     }
     stack[0..n].copy_from_slice(&scratch[0..n]);
-    Ok(Answer {
-        n,
-        calls: listing.calls,
-    })
+    Ok(listing)
 }
 
 // Answers with what is stored, or with a `#` or an `@` that is the whole query.
@@ -62,32 +54,17 @@ pub(crate) fn finish(
     log: Log<'_>,
     stack: &mut [Extent],
     scratch: &mut [Extent],
-) -> Result<Answer, SearchFault>
-    ensures { (slots : List ℕ → List ℕ) (e : Expr) → steps query.now ≡ postfix e → Stacked waiting stack.entry.now (pending (record { lists = record { slots = slots; span = log.entry.span }; trace = log.entry.trace.now }) e ∷ []) (0 + operand_calls (record { lists = record { slots = slots; span = log.entry.span }; trace = log.entry.trace.now }) e) → operand_fault (record { lists = record { slots = slots; span = log.entry.span }; trace = log.entry.trace.now }) (record { stack = length stack.entry.now; scratch = length scratch.old }) 0 e ≡ None → Told (listed (record { lists = record { slots = slots; span = log.entry.span }; trace = log.entry.trace.now }) e) (query_calls (record { lists = record { slots = slots; span = log.entry.span }; trace = log.entry.trace.now }) e) (query_fault (record { lists = record { slots = slots; span = log.entry.span }; trace = log.entry.trace.now }) (record { stack = length stack.entry.now; scratch = length scratch.old }) e) result stack.exit.now }
+) -> Result<Listing, SearchFault>
+    requires { 0 < array_vec_len waiting.operands }
+    ensures { (slots : List ℕ → List ℕ) (e : Expr) → steps query.now ≡ postfix e
+        → let log = known slots log.entry.span log.entry.trace.now in let room = room stack.old scratch.old in
+        IsLeft log e waiting stack.old → operand_fault log room 0 e ≡ None → IsTold log room e result stack.new }
 {
-    let top = waiting.operands[0];
-    match top {
-        Operand::Stored(n) => Ok(Answer {
+    match waiting.operands[0] {
+        Operand::Stored(n) => Ok(Listing {
             n,
             calls: waiting.calls,
         }),
-        Operand::Windows(width) => list_alone(
-            &Windows {
-                width,
-                length: log.span,
-            },
-            first_place(query),
-            stack,
-            scratch,
-        ),
-        Operand::Runs(degrees) => list_alone(
-            &TraceRuns {
-                samples: log.trace,
-                degrees,
-            },
-            first_place(query),
-            stack,
-            scratch,
-        ),
+        top => list_alone(Side::new(top, &[], log), first_place(query), stack, scratch),
     }
 }

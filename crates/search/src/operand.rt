@@ -9,6 +9,13 @@ pub(crate) enum Operand {
     Runs(u32),
 }
 
+// Stays: by hand, since a variant that holds a value cannot be derived as the default. An operand stack needs one.
+impl Default for Operand {
+    fn default() -> Operand {
+        Operand::Stored(0)
+    }
+}
+
 impl Operand {
     // How many extents are stored of it.
     pub(crate) fn size(self) -> usize

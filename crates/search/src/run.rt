@@ -1,12 +1,13 @@
 // The steps of a query, one after the other.
-ghost use Rattle.std.specs.Prelude.{◌≡◌, ◌≤◌, [], length};
+ghost use Rattle.std.specs.Prelude.{[]};
 ghost use Rattle.query.specs.Queries.{steps};
-ghost use Rattle.search.specs.Run.{run as outcome, Fits};
+ghost use Rattle.search.specs.Law.{room};
+ghost use Rattle.search.specs.Run.{run as outcome, known, Fits};
 ghost use Rattle.search.specs.Stacks.{Ran};
 
 use super::evaluate::put;
 use super::fault::SearchFault;
-use super::join::Log;
+use super::log::Log;
 use super::operand_stack::OperandStack;
 use extents::extent::Extent;
 use postings::Postings;
@@ -20,14 +21,13 @@ pub(crate) fn run<P: Postings>(
     stack: &mut [Extent],
     scratch: &mut [Extent],
 ) -> Result<OperandStack, SearchFault>
-    requires { (Fits (steps query.now) 0) × (length (steps query.now) ≤ 63) }
-    ensures { Ran (outcome (record { lists = record { slots = (P.Postings.lists postings.now).slots; span = log.entry.span }; trace = log.entry.trace.now }) (record { stack = length stack.entry.now; scratch = length scratch.old }) (steps query.now) [] 0) result stack.exit.now }
+    requires { Fits (steps query.now) 0 }
+    ensures { let log = known (P.lists postings.now).slots log.entry.span log.entry.trace.now in
+        Ran (outcome log (room stack.old scratch.old) (steps query.now) [] 0) result stack.new }
 {
     let mut waiting = OperandStack::new();
-    let mut i = 0;
-    while let Some(step) = query.step(i) {
-        put(postings, step, log, &mut waiting, stack, scratch)?;
-        i += 1;
+    for step in query.steps() {
+        put(postings, *step, log, &mut waiting, stack, scratch)?;
     }
     Ok(waiting)
 }

@@ -1,40 +1,18 @@
 // A whole search in two areas that the caller lends.
-ghost use Rattle.std.specs.Prelude.{◌≡◌, ◌≤◌, length, replicate};
-ghost use Rattle.extents.specs.Counts.{capped};
-ghost use Rattle.extents.specs.Regions.{Lists};
-ghost use Rattle.query.specs.Expressions.{Expr};
-ghost use Rattle.search.specs.Law.{query_calls, most_calls};
-ghost use Rattle.search.specs.Meaning.{denotes, listed};
-ghost use Rattle.search.specs.Searches.{Searched, blank};
-ghost use Rattle.search.specs.Told.{Telling, kept_of};
+ghost use Rattle.search.specs.Law.{room, TakesFewCalls};
+ghost use Rattle.search.specs.Meaning.{over, MeansItsSet};
+ghost use Rattle.search.specs.Searches.{Searched};
+ghost use Rattle.search.specs.Told.{Telling};
 
-use super::answer::Answer;
+use super::area::clear_behind;
 use super::fault::SearchFault;
 use super::finish::finish;
-use super::join::Log;
+use super::log::Log;
 use super::run::run;
 use extents::extent::Extent;
+use operators::listing::Listing;
 use postings::Postings;
 use query::reader::read;
-
-// Writes (0,0) to every place of an area.
-fn clear(area: &mut [Extent])
-    ensures { area.new ≡ replicate (length area.old) blank }
-{
-    for x in area.iter_mut() {
-        *x = Extent { start: 0, end: 0 };
-    }
-}
-
-// How many extents an answer leaves on the stack.
-fn kept_of(answered: &Result<Answer, SearchFault>) -> usize
-    ensures { result ≡ kept_of answered.now }
-{
-    match answered {
-        Ok(answer) => answer.n,
-        Err(_) => 0,
-    }
-}
 
 // Reads the text and runs it; the areas keep what the run left in them.
 fn answer<P: Postings>(
@@ -43,8 +21,8 @@ fn answer<P: Postings>(
     text: &[u8],
     stack: &mut [Extent],
     scratch: &mut [Extent],
-) -> Result<Answer, SearchFault>
-    ensures { Telling (record { lists = P.Postings.lists postings.now; trace = trace.now }) (record { stack = length stack.entry.now; scratch = length scratch.old }) text.now result stack.exit.now }
+) -> Result<Listing, SearchFault>
+    ensures { Telling (over (P.lists postings.now) trace.now) (room stack.old scratch.old) text.now result stack.new }
 {
     let query = read(text)?;
     let span = postings.length();
@@ -56,21 +34,20 @@ fn answer<P: Postings>(
     finish(&query, waiting, log, stack, scratch)
 }
 
-// Searches the postings and the trace for the query that the text writes. The extents found stand at the front of the stack area; both areas are otherwise left at (0,0).
+// Searches the postings and the trace for the query that the text writes. The extents found stand at the front of the stack area;
+// both areas are otherwise left at (0,0).
 pub fn search<P: Postings>(
     postings: &P,
     trace: &[i32],
     text: &[u8],
     stack: &mut [Extent],
     scratch: &mut [Extent],
-) -> Result<Answer, SearchFault>
-    ensures exact { Searched (record { lists = P.Postings.lists postings.now; trace = trace.now }) (record { stack = length stack.entry.now; scratch = length scratch.old }) text.now result stack.exit.now scratch.new }
-    ensures sets { (e : Expr) → Lists (denotes (record { lists = P.Postings.lists postings.now; trace = trace.now }) e) (listed (record { lists = P.Postings.lists postings.now; trace = trace.now }) e) }
-    ensures few { (e : Expr) → capped (query_calls (record { lists = P.Postings.lists postings.now; trace = trace.now }) e) ≤ most_calls (record { lists = P.Postings.lists postings.now; trace = trace.now }) e }
+) -> Result<Listing, SearchFault>
+    ensures exact { Searched (over (P.lists postings.now) trace.now) (room stack.old scratch.old) text.now result stack.new scratch.new }
+    ensures sets { MeansItsSet (over (P.lists postings.now) trace.now) }
+    ensures few { TakesFewCalls (over (P.lists postings.now) trace.now) }
 {
     let answered = answer(postings, trace, text, stack, scratch);
-    let kept = kept_of(&answered);
-    clear(&mut stack[kept..]);
-    clear(scratch);
+    clear_behind(&answered, stack, scratch);
     answered
 }

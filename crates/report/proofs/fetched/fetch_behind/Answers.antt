@@ -1,10 +1,7 @@
-use Rattle.std.proofs.Common.{refl, rules}
-use Rattle.report.proofs.Fronts.{behind, not_behind}
+use Rattle.std.proofs.Common.{refl, arith, rules}
+use Rattle.report.proofs.Fronts.{behind}
 use Rattle.report.proofs.fetched.fetch_behind.Goals as goal
 
-pub returns-in-Ok : goal.returns-in-Ok
-returns-in-Ok g c =
-    behind c.args.stack.now c.fetch.new.out _ c.args.earlier.n c.args.earlier.calls c.in-Ok.listing.n _ _ c.in-Ok.listing.calls c.requires c.in-Ok.ensures refl (search rules)
-
-pub returns-in-Err : goal.returns-in-Err
-returns-in-Err g c = (refl, not_behind c.args.stack.now c.fetch.new.out _ c.args.earlier.n c.requires c.in-Err.ensures)
+pub returns : goal.returns
+returns g c =
+    behind c.args.stack.now c.fetch-fetched.new.out _ c.args.earlier c.fetch-fetched.result c.requires c.fetch-fetched.ensures c.in_ok-listing.listing _ (grind arith) refl (search rules)

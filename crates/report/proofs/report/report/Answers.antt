@@ -1,43 +1,26 @@
-use Rattle.std.proofs.Common.{◌≡◌, ◌-◌, ◌≤◌, length, take, drop, replicate, ap, ◌∙◌, arith}
-use borrow.Rule.Slice.PartMut.{put_mid}
-use Rattle.std.proofs.lemmas.List.{length-take, length-drop}
-use Rattle.postings.specs.Lists.{PostingLists}
-use Rattle.search.specs.Law.{Room}
-use Rattle.search.specs.Searches.{blank}
-use Rattle.report.specs.Law.{report_fault}
-use Rattle.report.specs.Reports.{Answers}
+use Rattle.std.proofs.Common.{◌≡◌, ◌-◌, ◌++◌, length, take, replicate, ap, ◌∙◌}
+use Rattle.search.specs.Law.{room}
+use Rattle.search.specs.Searches.{blank, kept_of}
+use Rattle.search.proofs.Clears.{told_clear}
+use Rattle.report.specs.Quiet.{quiet_reversals}
+use Rattle.report.specs.Law.{report_calls, report_fault}
+use Rattle.report.specs.Reports.{Reported}
 use Rattle.report.proofs.Exact.{quiet_listed}
-use Rattle.report.proofs.Outcomes.{kept_fits, reported}
 use Rattle.report.proofs.Worked.{sample_holds}
 use Rattle.report.proofs.report.report.Goals as goal
 
 pub returns : goal.returns
 returns g c =
-    let p : PostingLists = g.P.Postings.lists c.args.postings.now in
-    let room : Room = record { stack = length c.args.stack.now; scratch = length c.args.scratch.now } in
+    let p = g.P.Postings.lists c.args.postings.now in
+    let room = room c.args.stack.now c.args.scratch.now in
     let area = c.answer-answered.new.stack in
     let r = c.answer-answered.result in
-    let k = c.kept_of-kept.result in
-    let fit : k ≤ length area = omega (arith, c.kept_of-kept.ensures, kept_fits p room r area c.answer-answered.ensures) in
-    let n : length (take (length area - k) (drop k area)) ≡ length area - k = simp (length-take, length-drop) (omega arith) in
-    let part : c.clear.new.area ≡ replicate (length area - k) blank = c.clear.ensures ∙ ap (λ v. replicate v blank) n in
-    let bare : c.clear-2.new.area ≡ replicate room.scratch blank = c.clear-2.ensures ∙ ap (λ v. replicate v blank) c.answer-answered.auto.scratch in
-    let done : Answers p room (report_fault p room) r (put_mid k (length area - k) area c.clear.new.area) c.clear-2.new.area =
-    reported p room r area c.clear.new.area c.clear-2.new.area k c.answer-answered.ensures c.kept_of-kept.ensures c.answer-answered.auto.stack part bare in
+    let behind : c.clear_behind.new.stack ≡ take (kept_of r) area ++ replicate (length area - kept_of r) blank = c.clear_behind.ensures.stack in
+    let clear : c.clear_behind.new.scratch ≡ replicate (length c.args.scratch.now) blank = c.clear_behind.ensures.scratch ∙ ap (λ v. replicate v blank) c.answer-answered.auto.scratch in
+    let answers : Reported p room r c.clear_behind.new.stack c.clear_behind.new.scratch =
+    told_clear room r area _ _ c.answer-answered.auto.stack behind clear (quiet_reversals p) (report_calls p) (report_fault p room) c.answer-answered.ensures in
     record {
-      answers = done;
+      answers = answers;
       exact = quiet_listed p (g.P.Postings.lawful c.args.postings.now);
-      sample = sample_holds p room r _ _ done;
+      sample = sample_holds p room r _ _ answers;
     }
-
-pub offset_bounds-stack-kept : goal.offset_bounds-stack-kept
-offset_bounds-stack-kept g c =
-    omega (arith, c.kept_of-kept.ensures, kept_fits _ _ c.answer-answered.result c.answer-answered.new.stack c.answer-answered.ensures, c.answer-answered.auto.stack)
-
-pub slice_bounds-clear-count : goal.slice_bounds-clear-count
-slice_bounds-clear-count g c =
-    omega (arith, c.kept_of-kept.ensures, kept_fits _ _ c.answer-answered.result c.answer-answered.new.stack c.answer-answered.ensures, c.answer-answered.auto.stack)
-
-pub slice_bounds-clear-start : goal.slice_bounds-clear-start
-slice_bounds-clear-start g c =
-    omega (arith, c.kept_of-kept.ensures, kept_fits _ _ c.answer-answered.result c.answer-answered.new.stack c.answer-answered.ensures, c.answer-answered.auto.stack)

@@ -1,18 +1,19 @@
 use Rattle.std.proofs.Common.{◌≡◌, ℕ, [], length, None, Ok, Err, sym, subst, arith}
 use Rattle.std.proofs.lemmas.Result.{err_from_is_err_and}
 use Rattle.query.specs.Expressions.{postfix}
-use Rattle.search.specs.Law.{Room, operand_fault, query_calls, query_fault}
-use Rattle.search.specs.Meaning.{Log, listed}
-use Rattle.search.specs.Run.{run}
+use Rattle.search.specs.Law.{Room, room, operand_fault}
+use Rattle.search.specs.Meaning.{Log, over}
+use Rattle.search.specs.Run.{known, run}
 use Rattle.search.specs.Stacks.{Ran}
-use Rattle.search.specs.Told.{Told}
+use Rattle.search.specs.Told.{IsTold}
+use Rattle.search.proofs.Loops.{ran_one}
 use Rattle.search.proofs.Tells.{misread_tells, read_tells, answered_fits, trace_tells, run_ok, run_tells, end_tells}
 use Rattle.search.proofs.search.answer.Goals as goal
 
 pub returns-in_err-query : goal.returns-in_err-query
 returns-in_err-query g c =
-    let log : Log = record { lists = g.P.Postings.lists c.args.postings.now; trace = c.args.trace.now } in
-    let room : Room = record { stack = length c.args.stack.now; scratch = length c.args.scratch.now } in
+    let log = over (g.P.Postings.lists c.args.postings.now) c.args.trace.now in
+    let room = room c.args.stack.now c.args.scratch.now in
     let f = c.in_err-query.field-0.0 in
     let q = c.in_err-query.ensures in
     let p = err_from_is_err_and c.from_residual.result c.from_residual.ensures.1 in
@@ -20,8 +21,8 @@ returns-in_err-query g c =
 
 pub returns-then-trace-span : goal.returns-then-trace-span
 returns-then-trace-span g c =
-    let log : Log = record { lists = g.P.Postings.lists c.args.postings.now; trace = c.args.trace.now } in
-    let room : Room = record { stack = length c.args.stack.now; scratch = length c.args.scratch.now } in
+    let log = over (g.P.Postings.lists c.args.postings.now) c.args.trace.now in
+    let room = room c.args.stack.now c.args.scratch.now in
     let q = c.in_ok-query.ensures in
     read_tells log room c.args.text.now _ c.in_ok-query.query _ q.outcome q.complete q.leftmost
     (λ e h. trace_tells log room e _ (omega (arith, c.length-span.ensures)))
@@ -29,13 +30,16 @@ returns-then-trace-span g c =
 pub run-requires : goal.run-requires
 run-requires g c = answered_fits c.args.text.now c.in_ok-query.query c.in_ok-query.ensures.outcome
 
+pub finish-requires : goal.finish-requires
+finish-requires g c = ran_one _ c.in_ok-waiting.waiting c.run.new.stack c.in_ok-waiting.ensures
+
 pub returns-in_err-waiting : goal.returns-in_err-waiting
 returns-in_err-waiting g c =
     let lists = g.P.Postings.lists c.args.postings.now in
     let trace = c.args.trace.now in
-    let log : Log = record { lists = lists; trace = trace } in
-    let room : Room = record { stack = length c.args.stack.now; scratch = length c.args.scratch.now } in
-    let near : ℕ → Log = λ n. record { lists = record { slots = lists.slots; span = n }; trace = trace } in
+    let log = over lists trace in
+    let room = room c.args.stack.now c.args.scratch.now in
+    let near : ℕ → Log = λ n. known lists.slots n trace in
     let q = c.in_ok-query.ensures in
     let k = c.in_ok-query.query in
     let f = c.in_err-waiting.field-0.0 in
@@ -51,9 +55,9 @@ pub returns : goal.returns
 returns g c =
     let lists = g.P.Postings.lists c.args.postings.now in
     let trace = c.args.trace.now in
-    let log : Log = record { lists = lists; trace = trace } in
-    let room : Room = record { stack = length c.args.stack.now; scratch = length c.args.scratch.now } in
-    let near : ℕ → Log = λ n. record { lists = record { slots = lists.slots; span = n }; trace = trace } in
+    let log = over lists trace in
+    let room = room c.args.stack.now c.args.scratch.now in
+    let near : ℕ → Log = λ n. known lists.slots n trace in
     let span = c.length-span.result in
     let q = c.in_ok-query.ensures in
     let k = c.in_ok-query.query in
@@ -67,7 +71,7 @@ returns g c =
     let o = run_ok (near span) room e w area r in
     let R : ℕ → ℕ → Room = λ a b. record { stack = a; scratch = b } in
     let same : room ≡ there = λ j. R (sym c.run.auto.stack j) (sym c.run.auto.scratch j) in
-    let t : Told (listed (near span) e) (query_calls (near span) e) (query_fault (near span) there e) c.finish.result last = c.finish.ensures lists.slots e h o.1 (subst (λ v. operand_fault (near span) v 0 e ≡ None) same o.0) in
-    let u : Told (listed (near span) e) (query_calls (near span) e) (query_fault (near span) room e) c.finish.result last = subst (λ v. Told (listed (near span) e) (query_calls (near span) e) (query_fault (near span) v e) c.finish.result last) (sym same) t in
+    let t : IsTold (near span) there e c.finish.result last = c.finish.ensures lists.slots e h o.1 (subst (λ v. operand_fault (near span) v 0 e ≡ None) same o.0) in
+    let u : IsTold (near span) room e c.finish.result last = subst (λ v. IsTold (near span) v e c.finish.result last) (sym same) t in
     end_tells log room e c.finish.result last (omega (arith, c.length-span.ensures))
-    (subst (λ v. Told (listed (near v) e) (query_calls (near v) e) (query_fault (near v) room e) c.finish.result last) c.length-span.ensures u))
+    (subst (λ v. IsTold (near v) room e c.finish.result last) c.length-span.ensures u))
