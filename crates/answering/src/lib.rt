@@ -2,40 +2,49 @@
 #![tactic(auto)]
 
 use extents::extent::Extent;
+use operators::listing::Listing;
 use postings::Postings;
 use report::report::report;
+use search::area::BLANK;
 use search::search::search;
 use std::alloc::{AllocError, Global};
+use std::fmt::Display;
 use std::io;
 
 // How many extents each work area holds.
 const AREA: usize = 8_192;
 
 // The two work areas of a search.
-#[derive(Drop)]
+#[derive(Debug, Drop)]
 pub struct Areas {
     stack: Vec<Extent>,
     scratch: Vec<Extent>,
 }
 
-// One line with the counts, and a line for each extent.
-fn print_found(rt: &HostRuntime, n: usize, calls: u64, extents: &[Extent]) -> io::Result<()> {
-    println!(rt; "found {n} calls {calls}")?;
-    for extent in extents.iter().take(n) {
-        let start = extent.start;
-        let end = extent.end;
-        println!(rt; "{start} {end}")?;
+// One line with the counts, and a line for each extent; or the refusal.
+fn print_answer<E: Display + Drop>(
+    rt: &HostRuntime,
+    answered: Result<Listing, E>,
+    extents: &[Extent],
+) -> io::Result<()> {
+    match answered {
+        Ok(Listing { n, calls }) => {
+            println!(rt; "found {n} calls {calls}")?;
+            for Extent { start, end } in extents.iter().take(n) {
+                println!(rt; "{start} {end}")?;
+            }
+            Ok(())
+        }
+        Err(why) => println!(rt; "{why}"),
     }
-    Ok(())
 }
 
 impl Areas {
     // Two areas of 8,192 extents each.
     pub fn new(heap: Global) -> Result<Areas, AllocError> {
-        let blank = Extent { start: 0, end: 0 };
         Ok(Areas {
-            stack: vec![in heap; blank; AREA]?,
-            scratch: vec![in heap; blank; AREA]?,
+            stack: vec![in heap; BLANK; AREA]?,
+            scratch: vec![in heap; BLANK; AREA]?,
         })
     }
 
@@ -47,25 +56,14 @@ impl Areas {
         text: &[u8],
     ) -> io::Result<()> {
         let stack = self.stack.as_mut_slice();
-        match search(store, &[], text, stack, self.scratch.as_mut_slice()) {
-            Ok(answer) => print_found(rt, answer.n, answer.calls, stack),
-            Err(fault) => {
-                let number = fault.number();
-                let place = fault.place();
-                println!(rt; "refused {number} at {place}")
-            }
-        }
+        let answered = search(store, &[], text, stack, self.scratch.as_mut_slice());
+        print_answer(rt, answered, stack)
     }
 
     // Prints the shift report over any postings.
     pub fn report<P: Postings>(&mut self, rt: &HostRuntime, store: &P) -> io::Result<()> {
         let stack = self.stack.as_mut_slice();
-        match report(store, stack, self.scratch.as_mut_slice()) {
-            Ok(answer) => print_found(rt, answer.n, answer.calls, stack),
-            Err(fault) => {
-                let number = fault.number();
-                println!(rt; "refused {number}")
-            }
-        }
+        let answered = report(store, stack, self.scratch.as_mut_slice());
+        print_answer(rt, answered, stack)
     }
 }

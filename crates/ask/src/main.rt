@@ -2,8 +2,9 @@
 #![tactic(auto)]
 
 use answering::Areas;
-use anyhow::anyhow;
+use anyhow::{Context, bail};
 use console::command::Command;
+use console::ending::end;
 use console::input::{Session, run};
 use layout::index::SealedIndex;
 use std::process::ExitCode;
@@ -16,11 +17,12 @@ struct Reading<'a> {
 }
 
 impl<'a> Session for Reading<'a> {
-    fn command(&mut self, rt: &HostRuntime, command: Command<'_>) -> io::Result<()> {
+    fn command(&mut self, rt: &HostRuntime, command: Option<Command<'_>>) -> io::Result<()> {
+        // Stays: each command does another thing.
         match command {
-            Command::Query(text) => self.areas.query(rt, &self.index, text),
-            Command::Report => self.areas.report(rt, &self.index),
-            Command::Enter(_, _) | Command::Other => Ok(()),
+            Some(Command::Query(text)) => self.areas.query(rt, &self.index, text),
+            Some(Command::Report) => self.areas.report(rt, &self.index),
+            Some(Command::Enter(_, _)) | None => Ok(()),
         }
     }
 }
@@ -29,9 +31,8 @@ impl<'a> Session for Reading<'a> {
 fn answer_over(rt: &HostRuntime, bytes: &[u8]) -> anyhow::Result<()> {
     let mut index = SealedIndex::new();
     if let Err(why) = index.open(bytes) {
-        let number = why.number();
-        println!(rt; "refused {number}")?;
-        return Err(anyhow!("the file is no index"));
+        println!(rt; "{why}")?;
+        bail!("the file is no index");
     }
     let mut reading = Reading {
         index,
@@ -42,22 +43,14 @@ fn answer_over(rt: &HostRuntime, bytes: &[u8]) -> anyhow::Result<()> {
 }
 
 fn ask_file(rt: &HostRuntime) -> anyhow::Result<()> {
-    let mut words = env::args(rt)?;
-    let Some(path) = words.nth(1) else {
-        return Err(anyhow!("say which index to read: ask FILE"));
-    };
-    match fs::read(rt, path.as_str()) {
-        Ok(bytes) => answer_over(rt, bytes.as_slice()),
-        Err(e) => Err(anyhow!(format!(in rt.alloc(); "cannot read {path}: {e}")?)),
-    }
+    let path = env::args(rt)?
+        .nth(1)
+        .context("say which index to read: ask FILE")?;
+    let bytes = fs::read(rt, path.as_str()).context(format_args!("cannot read {path}"))?;
+    answer_over(rt, bytes.as_slice())
 }
 
+// Stays: a line each; how a program ends is in `ending`.
 fn main(rt: HostRuntime) -> ExitCode {
-    match ask_file(&rt) {
-        Ok(()) => ExitCode::SUCCESS,
-        Err(e) => {
-            let _ = eprintln!(rt; "ask: {e}");
-            ExitCode::FAILURE
-        }
-    }
+    end(&rt, "ask", ask_file(&rt))
 }

@@ -1,10 +1,12 @@
 // seal FILE: enters a shift's log from standard input, then writes it to FILE as a sealed index.
 #![tactic(auto)]
 
-use anyhow::anyhow;
+use anyhow::{Context, anyhow};
 use console::command::Command;
+use console::ending::end;
 use console::input::{Session, run};
-use sealed::seal::seal;
+use console::telling::tell;
+use sealed::seal::{index_size, seal};
 use shift_logbook::book::Logbook;
 use std::process::ExitCode;
 use std::{env, fs, io};
@@ -15,33 +17,21 @@ struct Shift {
 }
 
 impl Session for Shift {
-    fn command(&mut self, rt: &HostRuntime, command: Command<'_>) -> io::Result<()> {
-        let Command::Enter(name, slot) = command else {
+    fn command(&mut self, rt: &HostRuntime, command: Option<Command<'_>>) -> io::Result<()> {
+        let Some(Command::Enter(name, slot)) = command else {
             return Ok(());
         };
-        match self.book.enter(name, slot) {
-            Ok(()) => println!(rt; "ok"),
-            Err(why) => {
-                let number = why.number();
-                println!(rt; "refused {number}")
-            }
-        }
+        tell(rt, self.book.enter(name, slot))
     }
 }
 
 // The bytes of the index of a logbook.
 fn index_of(rt: &HostRuntime, book: &Logbook) -> anyhow::Result<Vec<u8>> {
-    let rows = book.rows().len();
-    let entries = book.entries() as usize;
-    let size = rows
-        .saturating_mul(24)
-        .saturating_add(entries.saturating_mul(4))
-        .saturating_add(15);
-    let mut bytes = vec![in rt.alloc(); 0u8; size]?;
-    match seal(book, bytes.as_mut_slice()) {
-        Ok(_) => Ok(bytes),
-        Err(_) => Err(anyhow!("the index has another length than its parts")),
-    }
+    let mut bytes = vec![in rt.alloc(); 0u8; index_size(book)]?;
+    seal(book, bytes.as_mut_slice()).map_err(|_| anyhow!(
+        "the index has another length than its parts"
+    ))?;
+    Ok(bytes)
 }
 
 // Writes the bytes under one name and then puts them in the place of another.
@@ -61,29 +51,21 @@ fn put_in_place(rt: &HostRuntime, path: &str, bytes: &[u8]) -> io::Result<()> {
 }
 
 fn seal_shift(rt: &HostRuntime) -> anyhow::Result<()> {
-    let mut words = env::args(rt)?;
-    let Some(path) = words.nth(1) else {
-        return Err(anyhow!("say where to write the index: seal FILE"));
-    };
+    let path = env::args(rt)?
+        .nth(1)
+        .context("say where to write the index: seal FILE")?;
     let mut shift = Shift {
         book: Logbook::new(rt.alloc())?,
     };
     run(rt, &mut shift)?;
     let bytes = index_of(rt, &shift.book)?;
-    if let Err(e) = put_in_place(rt, path.as_str(), bytes.as_slice()) {
-        return Err(anyhow!(format!(in rt.alloc(); "cannot write {path}: {e}")?));
-    }
+    put_in_place(rt, path.as_str(), bytes.as_slice()).context(format_args!("cannot write {path}"))?;
     let length = bytes.len();
     println!(rt; "sealed {length}")?;
     Ok(())
 }
 
+// Stays: a line each; how a program ends is in `ending`.
 fn main(rt: HostRuntime) -> ExitCode {
-    match seal_shift(&rt) {
-        Ok(()) => ExitCode::SUCCESS,
-        Err(e) => {
-            let _ = eprintln!(rt; "seal: {e}");
-            ExitCode::FAILURE
-        }
-    }
+    end(&rt, "seal", seal_shift(&rt))
 }

@@ -5,15 +5,16 @@ use console::command::Command;
 use console::input::{Session, run};
 use postings::Postings;
 use shift_logbook::book::Logbook;
+use shift_logbook::refusal::EnterRefusal;
 use std::alloc::{AllocError, Global};
 use std::collections::BTreeSet;
-use std::io;
+use std::{io, iter};
 
-// A line that was refused, and the refusal's number.
-#[derive(Clone, Copy)]
+// A line that was refused, and why.
+#[derive(Clone, Copy, Debug, PartialEq, Eq)]
 struct Refused {
     line: u64,
-    number: u8,
+    why: EnterRefusal,
 }
 
 #[derive(Drop)]
@@ -44,7 +45,7 @@ impl Check {
             }
             Err(why) => self.refused.push(Refused {
                 line: self.lines,
-                number: why.number(),
+                why,
             })?,
         }
         Ok(())
@@ -52,9 +53,9 @@ impl Check {
 }
 
 impl Session for Check {
-    fn command(&mut self, _rt: &HostRuntime, command: Command<'_>) -> io::Result<()> {
+    fn command(&mut self, _rt: &HostRuntime, command: Option<Command<'_>>) -> io::Result<()> {
         self.lines = self.lines.saturating_add(1);
-        if let Command::Enter(name, slot) = command {
+        if let Some(Command::Enter(name, slot)) = command {
             self.enter(name, slot)?;
         }
         Ok(())
@@ -63,16 +64,10 @@ impl Session for Check {
 
 // The slots of a name in any store, in rising order.
 fn slots_of<P: Postings>(heap: Global, store: &P, name: &[u8]) -> Result<Vec<u32>, AllocError> {
-    let mut slots = Vec::new(heap);
-    let mut next = store.next(name, 0);
-    for _ in 0..store.length() {
-        let Some(slot) = next else {
-            break;
-        };
-        slots.push(slot)?;
-        next = store.next(name, slot.saturating_add(1));
-    }
-    Ok(slots)
+    let first = store.next(name, 0);
+    iter::successors(first, |slot| store.next(name, slot.saturating_add(1)))
+        .take(store.length() as usize)
+        .collect(heap)
 }
 
 // One line for a name: how often it stands, and where.
@@ -93,10 +88,8 @@ fn print_all(rt: &HostRuntime, check: &Check) -> anyhow::Result<()> {
     for name in &check.names {
         print_name(rt, &check.book, name.as_slice())?;
     }
-    for refused in check.refused.as_slice() {
-        let line = refused.line;
-        let number = refused.number;
-        println!(rt; "line {line} refused {number}")?;
+    for Refused { line, why } in &check.refused {
+        println!(rt; "line {line} {why}")?;
     }
     Ok(())
 }
