@@ -76,18 +76,30 @@ def shape(body):
 
 
 def stays(path, line):
-    """Whether a line `// Stays:` stands in the item that holds the line, or in the comment above it."""
+    """Whether a line `// Stays:` stands in the item that holds the line, in the comment above it, or above its impl."""
     lines = path.read_text().split("\n")
-    start = line - 1
+    if path.suffix == ".antt":
+        return any("-- Stays:" in l for l in lines)
     item = re.compile(r"(    )?(pub(\(crate\))? )?(fn|struct|enum|trait) ")
+    start = line - 1
     while start > 0 and not item.match(lines[start]):
         start -= 1
     end = start
-    while end + 1 < len(lines) and not item.match(lines[end + 1]):
+    while end + 1 < len(lines) and not re.match(r"(    )?\}$", lines[end + 1]):
         end += 1
-    while start > 0 and re.match(r"\s*(//|#\[)", lines[start - 1]):
-        start -= 1
-    return any("// Stays:" in l for l in lines[start:max(end, line)])
+    block = start
+    while block > 0 and not re.match(r"(pub )?(impl|fn|struct|enum|trait)\b", lines[block]):
+        block -= 1
+
+    def above(at):
+        while at > 0 and re.match(r"\s*(//|#\[)", lines[at - 1]):
+            at -= 1
+        return at
+
+    near = lines[above(start):max(end, line)]
+    if lines[block].startswith("impl"):
+        near += lines[above(block):block]
+    return any("// Stays:" in l for l in near)
 
 
 def own_option(root):
@@ -163,12 +175,19 @@ def by_hand(root):
             m = re.match(r"\s*(pub(\(crate\))? )?fn (is_\w+|compare|earlier|later|number)\b", line)
             if m:
                 body = "\n".join(lines[i:i + 18]).split("\n    }\n" if line.startswith("    ") else "\n}\n")[0]
-                if m.group(3) == "compare" or "match self" in body or "else if" in body:
+                if m.group(3) == "compare" or "match self {" in body or "else if" in body:
                     yield path, i, line.strip()
 
 
 def clauses(head):
-    return [re.sub(r"\s+", " ", c).strip() for c in re.findall(r"(?:requires|ensures)\*?(?: \w+)? \{(.*)\}\s*$", "\n".join(head), re.M)]
+    """The clauses of a function's head, each on one line, without the braces round it."""
+    text = "\n".join(head)
+    for m in re.finditer(r"(?:requires|ensures)\*?(?: \w+)? \{", text):
+        depth, at = 1, m.end()
+        while depth and at < len(text):
+            depth += {"{": 1, "}": -1}.get(text[at], 0)
+            at += 1
+        yield re.sub(r"\s+", " ", text[m.end():at - 1]).strip()
 
 
 def repeated(root):
