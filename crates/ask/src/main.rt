@@ -18,7 +18,7 @@ struct Reading<'a> {
 
 impl<'a> Session for Reading<'a> {
     fn command(&mut self, rt: &HostRuntime, command: Option<Command<'_>>) -> io::Result<()> {
-        // Stays: each command does another thing.
+        // Stays: a match on an enum is today's form, and each arm does another thing.
         match command {
             Some(Command::Query(text)) => self.areas.query(rt, &self.index, text),
             Some(Command::Report) => self.areas.report(rt, &self.index),

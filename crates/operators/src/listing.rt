@@ -38,7 +38,7 @@ pub fn list_by<F: Fn(u32) -> Found>(next: F, out: &mut [Extent]) -> Result<Listi
     let mut tally = Tally::new();
     let mut n = 0;
     let mut at = 0;
-    // Stays: the end of the list is asked for, at one past each start; n is where the lent area is written.
+    // Stays: the next key hangs on what was given, and the last ask counts too; `successors` has no count of it.
     while let Some(x) = tally.take(next(at)) {
         if n == out.len() {
             return Err(Overfull);

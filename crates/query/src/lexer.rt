@@ -14,7 +14,7 @@ const WINDOWS_MAX: u32 = 1_073_741_824;
 
 const RUNS_MAX: u32 = 3_000;
 
-// Stays: three tests, one library call and one bound each: a helper with a closure parameter would wrap that call alone.
+// Stays: three functions of one library call each; a helper that takes the test would be that call again.
 // How many spaces the text begins with.
 fn spaces_len(text: &[u8]) -> usize
     ensures within { result ≤ length text.now }

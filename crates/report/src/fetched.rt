@@ -22,7 +22,7 @@ pub(crate) struct Fetched {
     pub(crate) calls: u64,
 }
 
-// Stays: a store is read and an area is written, each lent by the caller.
+// Stays: the area is lent, and stays a parameter of its own beside the store, a rule of the project.
 // Writes the slots of a name behind the extents fetched so far, and adds its calls to theirs.
 fn fetch_behind<P: Postings>(
     postings: &P,

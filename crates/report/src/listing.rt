@@ -22,7 +22,7 @@ pub(crate) fn list_quiet(
         let xs = alarms.entry.items.now in let ys = cuts.entry.items.now in
         ListsTo (quiet_of bs es xs ys) (quiet_calls bs es xs ys) out.old out.new result }
 {
-    // Stays: the operators hold their operands by value, one in the other.
+    // Stays: the operators hold their operands by value, one in the other, a rule of the project.
     let quiet = NotContaining {
         a: FollowedBy { a: begins, b: ends },
         b: OneOf { a: alarms, b: cuts },

@@ -5,7 +5,7 @@ use layout::fields::NAME_SIZE;
 use shift_logbook::row::Row;
 
 // A buffer, and the place up to which it is written.
-// Stays: the whole buffer is kept, since what is written is told by its place there.
+// Stays: a buffer and a place, not the rest of a slice: the contract of each piece says what stands before it in the whole buffer.
 #[derive(Drop)]
 pub(crate) struct Writer<'a> {
     buffer: &'a mut [u8],

@@ -99,7 +99,7 @@ pub(crate) fn put<P: Postings>(
     ensures { let log = known (P.lists postings.now).slots log.entry.span log.entry.trace.now in
         Steps log (room stack.old scratch.old) (shown step.entry).0 step.entry.place waiting.old stack.old result waiting.new stack.new }
 {
-    // Stays: each action does another thing.
+    // Stays: a match on an enum is today's form, and each arm does another thing.
     match step.action {
         Action::Name(name) => put_name(postings, name, step.place, waiting, stack),
         Action::Windows(width) => {

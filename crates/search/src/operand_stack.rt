@@ -12,7 +12,7 @@ use arrayvec::ArrayVec;
 #[derive(Drop)]
 pub(crate) struct OperandStack {
     pub(crate) operands: ArrayVec<Operand, 32>,
-    // Stays: the sum over the operands, kept so that a step does not add them up; `counted` ties it.
+    // Stays: the sum over the operands; without it each step would add them up, a loop more; `counted` ties it.
     pub(crate) used: usize,
     pub(crate) calls: u64,
     ghost counted: { used ≡ sum_by size operands.items },

@@ -28,7 +28,7 @@ impl<'a> Side<'a> {
         requires { ExtentList items.now }
         ensures { side_list result ≡ extents_in log.entry.span log.entry.trace.now (seen operand items.now) }
     {
-        // Stays: the one place at which an operand becomes its source.
+        // Stays: the one place at which an operand becomes its source; each arm makes another.
         match operand {
             Operand::Stored(_) => Side::Stored(StoredList::or_empty(items)),
             Operand::Windows(width) => Side::Windows(Windows::new(width, log.span)),
@@ -40,7 +40,7 @@ impl<'a> Side<'a> {
     pub(crate) fn list(self, out: &mut [Extent]) -> Result<Listing, Overfull>
         ensures { ListsTo (side_list self.entry) (each_one FirstStart) out.old out.new result }
     {
-        // Stays: each arm is a source of another type.
+        // Stays: each arm is a source of another type, to which the listing is generic, a rule of the project.
         match self {
             Side::Stored(list) => list_into(&list, out),
             Side::Windows(windows) => list_into(&windows, out),
