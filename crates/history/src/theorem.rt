@@ -28,6 +28,7 @@ use search::search::search;
 use shift_logbook::book::Logbook;
 
 // What an access found, how many calls were made on the logbook, and what a search answered, its refusal by number and place.
+// Stays: a refusal is told by number and place, and clause `told` says that these are its own.
 #[derive(Clone, Copy, Debug, PartialEq, Eq)]
 pub struct Outcome {
     pub found: Found,

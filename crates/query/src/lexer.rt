@@ -58,6 +58,7 @@ fn amount(text: &[u8], place: usize, limit: u32) -> Result<(u32, usize), TokenFa
     }
 }
 
+// Stays: each of three functions says that its own token lies ahead; one word for a clause of one line would hide it.
 // The name that begins at `place`.
 fn name<'a>(text: &'a [u8], place: usize) -> Result<Located<'a>, TokenFault>
     requires { place ≤ length text.now }

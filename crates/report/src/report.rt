@@ -16,6 +16,7 @@ use operators::listing::Listing;
 use postings::Postings;
 use search::area::clear_behind;
 
+// Stays: two counts are added once; a tally takes what an access found, and a listing is none.
 // Fetches the four names and lists the quiet reversals; the areas keep what that left in them.
 fn answer<P: Postings>(
     postings: &P,

@@ -55,6 +55,7 @@ fn take_off<'a>(waiting: &mut OperandStack, stack: &'a [Extent], log: Log<'a>) -
     Side::new(operand, &stack[waiting.used..end], log)
 }
 
+// Stays: the end of a query stores its list in the same four lines; a function for them would have a longer contract.
 // Lists an operator over the two operands on top, and stores its list in their place.
 fn put_operator(
     operator: Operator,

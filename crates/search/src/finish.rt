@@ -27,6 +27,7 @@ fn first_place(query: &Query<'_>) -> usize
     query.steps().first().map_or(0, |step| step.place)
 }
 
+// Stays: an operator stores its list in the same four lines; a function for them would have a longer contract.
 // Lists an operand that is the whole query, and stores its list.
 fn list_alone(
     side: Side<'_>,
