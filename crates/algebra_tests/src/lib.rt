@@ -1,22 +1,12 @@
-// Worked examples of sources and operators, with results by hand.
+//! Worked examples of sources and operators, with results by hand.
 #![tactic(auto)]
 
 #[cfg(test)]
 mod tests {
-    use combination::both_of::BothOf;
-    use combination::followed_by::FollowedBy;
-    use combination::one_of::OneOf;
-    use containment::contained_in::ContainedIn;
-    use containment::not_containing::NotContaining;
-    use extents::access::Access;
-    use extents::extent::Extent;
-    use extents::operator::Operator;
-    use extents::source::Source;
-    use extents::stored::StoredList;
-    use extents::trace::TraceRuns;
-    use extents::windows::Windows;
-    use operators::evaluate::evaluate;
-    use operators::listing::{list_into, list_operator};
+    use combination::{BothOf, FollowedBy, OneOf};
+    use containment::{ContainedIn, NotContaining};
+    use extents::{Access, Extent, Operator, Source, StoredList, TraceRuns, Windows};
+    use operators::{evaluate, list_into, list_operator};
     use std::process::Abort;
     use std::test::Fail;
 
@@ -199,17 +189,20 @@ mod tests {
         assert!(rt; close.fill(&closes).is_ok());
         assert!(rt; alarm.fill(&alarms).is_ok());
         assert!(rt; cut.fill(&cuts).is_ok());
-        let reversal = FollowedBy { a: open, b: close };
+        let reversal = FollowedBy {
+            a: &open,
+            b: &close,
+        };
         let quiet = NotContaining {
             a: reversal,
-            b: OneOf { a: alarm, b: cut },
+            b: OneOf { a: &alarm, b: &cut },
         };
         expect(&rt, &reversal, &[(2, 6), (8, 11), (14, 18)], 10)?;
         expect(&rt, &quiet, &[(8, 11)], 16)?;
         let mut out = [point(0); 8];
         let inside = ContainedIn {
             a: Windows::new(2, 19),
-            b: BothOf { a: quiet, b: cut },
+            b: BothOf { a: quiet, b: &cut },
         };
         let listing = list_into(&inside, &mut out)
             .ok()

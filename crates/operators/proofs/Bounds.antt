@@ -21,7 +21,7 @@ use Rattle.combination.specs.Hulls.{mem_hulls, both_rising}
 use Rattle.operators.specs.Listing.{list_calls, Cheap}
 use Rattle.combination.specs.OneOf.{one_of, one_first_start_calls}
 use Rattle.combination.specs.OneOfs.{one_rising}
-use Rattle.containment.specs.Filter.{Judged, kept, ahead, Ahead, Sound, calls_on, walk_calls, ask_ahead, ahead_calls}
+use Rattle.containment.specs.Filter.{Judgement, kept, ahead, JudgesAhead, Sound, calls_on, walk_calls, ask_ahead, ahead_calls}
 use Rattle.containment.proofs.Filters.{reached, ahead_monotone}
 
 -- Lengths: different starts, each found among some numbers, are no more than those.
@@ -152,7 +152,7 @@ reached_most : (p : Extent → Bool) (xs : List Extent) → reached p xs ≤ len
 reached_most p [] = omega arith
 reached_most p (x ∷ xs) = let i = reached_most p xs in by_test (p x) (λ t. rw t (omega arith)) (λ t. rw t (omega arith))
 
-module _ (keep : Extent → Bool) (cl : Access → ℕ → ℕ) (judge : Extent → Judged) (sound : Ahead keep judge) (p : Cheap cl) (c : (x : Extent) → (judge x).cost ≤ 1) where
+module _ (keep : Extent → Bool) (cl : Access → ℕ → ℕ) (judge : Extent → Judgement) (sound : JudgesAhead keep judge) (p : Cheap cl) (c : (x : Extent) → (judge x).cost ≤ 1) where
   ask_one : (n : Key) → ask_ahead cl n ≤ 1
   ask_one (Start k) = p FirstStart k
   ask_one (End k) = p FirstEnd k
@@ -255,7 +255,7 @@ pub all_trivial : (xs : List Extent) → AllByRecursion (λ y. 0 ≤ y.start) xs
 all_trivial [] = tt
 all_trivial (x ∷ xs) = (omega arith, all_trivial xs)
 
-module _ (keep : Extent → Bool) (ls : List Extent) (hl : ExtentList ls) (cl : Access → ℕ → ℕ) (judge : Extent → Judged) (sound : Ahead keep judge) (p : Cheap cl) (c : (x : Extent) → (judge x).cost ≤ 1) where
+module _ (keep : Extent → Bool) (ls : List Extent) (hl : ExtentList ls) (cl : Access → ℕ → ℕ) (judge : Extent → Judgement) (sound : JudgesAhead keep judge) (p : Cheap cl) (c : (x : Extent) → (judge x).cost ≤ 1) where
   from_key : (es : List Extent) (k : ℕ) → onward k (kept keep ls) ≡ es → list_calls (ahead_calls ls cl judge) k es ≤ 2 * reached (ahead (Start k)) ls + 1
   unfolding kept ahead_calls
   from_key [] k q = omega (arith, walk_calls_few keep cl judge sound p c ls (Start k) hl)

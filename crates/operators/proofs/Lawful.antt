@@ -6,7 +6,7 @@ use Rattle.extents.specs.declared.extent.Extent.{Extent}
 use Rattle.extents.specs.declared.operator.Operator.{Operator}
 use Rattle.extents.specs.declared.operator.Operator.TheVariants.{ContainedIn, NotContainedIn, Containing, NotContaining, BothOf, OneOf, FollowedBy}
 use Rattle.extents.specs.Extents.{ExtentList, inside_some}
-use Rattle.containment.specs.Filter.{kept, Judged, Ahead, ahead_calls}
+use Rattle.containment.specs.Filter.{kept, Judgement, JudgesAhead, ahead_calls}
 use Rattle.containment.specs.Soundness.{contained_in_sound, not_contained_in_sound, containing_sound, not_containing_sound}
 use Rattle.containment.specs.Verdicts.{holds_some, inside_none, holds_none, by_first_end, by_first_start, contained_in_ahead, not_contained_in_ahead, containing_ahead, not_containing_ahead}
 use Rattle.operators.specs.Listing.{list_calls, Cheap}
@@ -24,7 +24,7 @@ module _ (ls rs : List Extent) (hl : ExtentList ls) (hr : ExtentList rs) where
   operator_short FollowedBy = followed_length ls rs hl hr
 
   module _ (cl cr : Access → ℕ → ℕ) (p : Cheap cl) (q : Cheap cr) where
-    few : (keep : Extent → Bool) (judge : Extent → Judged) → Ahead keep judge → ((x : Extent) → (judge x).cost ≤ 1) → list_calls (ahead_calls ls cl judge) 0 (kept keep ls) ≤ 4 * (length ls + length rs + 1)
+    few : (keep : Extent → Bool) (judge : Extent → Judgement) → JudgesAhead keep judge → ((x : Extent) → (judge x).cost ≤ 1) → list_calls (ahead_calls ls cl judge) 0 (kept keep ls) ≤ 4 * (length ls + length rs + 1)
     few keep judge s c = omega (arith, kept_listing keep ls hl cl judge s p c)
 
     pub operator_few : (op : Operator) → list_calls (first_start_calls op ls cl rs cr) 0 (operator_list op ls rs) ≤ 4 * (length ls + length rs + 1)

@@ -6,15 +6,12 @@
 --   ListsTo              either the whole list is in the area, or the list is longer than the area
 --   ListsOperator        the same of an operator over two lists ls and rs, whose accesses take cl and cr calls
 --   listing_calls        the calls to list such an operator
---   GivesFirstStarts post xs f   what is given at a key k, as post says, is the first start of xs at k, in f k calls
 --   Cheap c              each access takes one call at most
-use Rattle.std.specs.Prelude.{◌≡◌, ℕ, ◌+◌, ◌<◌, ◌≤◌, ◌^◌, List, [], ◌∷◌, ◌++◌, length, take, drop, Result, MatchResult}
+use Rattle.std.specs.Prelude.{◌≡◌, ℕ, ◌+◌, ◌<◌, ◌≤◌, List, [], ◌∷◌, ◌++◌, length, take, drop, Result, MatchResult}
 use Rattle.extents.specs.declared.access.Access.{Access}
 use Rattle.extents.specs.declared.extent.Extent.{Extent}
-use Rattle.extents.specs.declared.extent.Found.{Found}
 use Rattle.extents.specs.declared.operator.Operator.{Operator}
 use Rattle.extents.specs.Counts.{capped}
-use Rattle.extents.specs.Extents.{first_start}
 use Rattle.operators.specs.declared.listing.Listing.{Listing}
 use Rattle.operators.specs.declared.listing.Overfull.{Overfull}
 use Rattle.operators.specs.Operators.{operator_list, first_start_calls}
@@ -41,9 +38,6 @@ ListsOperator op ls cl rs cr was area r = ListsTo (operator_list op ls rs) (firs
 
 abbrev pub listing_calls : Operator → List Extent → (Access → ℕ → ℕ) → List Extent → (Access → ℕ → ℕ) → ℕ
 listing_calls op ls cl rs cr = list_calls (first_start_calls op ls cl rs cr) 0 (operator_list op ls rs)
-
-abbrev pub GivesFirstStarts : (ℕ → Found → Type 0) → List Extent → (ℕ → ℕ) → Type 0
-GivesFirstStarts post xs f = (k : ℕ) (r : Found) → k < 2 ^ 32 → post k r → (r.extent ≡ first_start xs k) × (r.calls ≡ f k)
 
 abbrev pub Cheap : (Access → ℕ → ℕ) → Type 0
 Cheap c = (a : Access) (k : ℕ) → c a k ≤ 1

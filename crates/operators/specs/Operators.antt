@@ -1,7 +1,6 @@
 -- The list that each operator makes of two extent lists, and the calls that its accesses take. Assumes nothing.
 --
 --   operator_list op ls rs          the operator's list over the lists ls and rs
---   set_over op ls rs               the operator's set over the extents of ls and those of rs
 --   first_start_calls op ls cl rs cr k   the calls of its first start at k, where an access a at a key j to ls takes cl a j calls, and one to rs cr a j
 --   last_end_calls op ls cl rs cr k      the calls of its last end at k
 --   operator_calls op ls cl rs cr a k    the calls of the access a at k
@@ -12,7 +11,6 @@ use Rattle.extents.specs.declared.operator.Operator.{Operator}
 use Rattle.extents.specs.declared.operator.Operator.TheVariants.{ContainedIn, NotContainedIn, Containing, NotContaining, BothOf, OneOf, FollowedBy}
 use Rattle.extents.specs.Counts.{whole_calls}
 use Rattle.extents.specs.Extents.{inside_some}
-use Rattle.extents.specs.Regions.{Members, operator_set}
 use Rattle.containment.specs.Filter.{kept, ahead_calls, behind_calls}
 use Rattle.containment.specs.Verdicts.{holds_some, inside_none, holds_none, by_first_end, by_first_start, by_last_start, by_last_end, contained_in_ahead, not_contained_in_ahead, containing_ahead, not_containing_ahead, contained_in_behind, not_contained_in_behind, containing_behind, not_containing_behind}
 use Rattle.combination.specs.BothOf.{both_of, both_first_start_calls, both_last_end_calls}
@@ -27,9 +25,6 @@ operator_list NotContaining ls rs = kept (holds_none rs) ls
 operator_list BothOf ls rs = both_of ls rs
 operator_list OneOf ls rs = one_of ls rs
 operator_list FollowedBy ls rs = followed ls rs
-
-abbrev pub set_over : Operator → List Extent → List Extent → Extent → Type 0
-set_over op ls rs = operator_set op (Members ls) (Members rs)
 
 abbrev pub first_start_calls : Operator → List Extent → (Access → ℕ → ℕ) → List Extent → (Access → ℕ → ℕ) → ℕ → ℕ
 first_start_calls ContainedIn ls cl rs cr = ahead_calls ls cl (by_first_end contained_in_ahead rs cr)

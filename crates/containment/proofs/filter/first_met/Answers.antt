@@ -1,7 +1,7 @@
 use Rattle.std.proofs.Common.{◌≡◌, Some, None, sym, refl, ap, ◌∙◌, arith}
 use Rattle.extents.specs.Extents.{find_first}
 use Rattle.containment.specs.declared.verdict.Verdict.TheVariants.{Keep, Stop, GoOn}
-use Rattle.containment.specs.Filter.{met, reaches, calls_on}
+use Rattle.containment.specs.Filter.{candidates_of, reaches, calls_on}
 use Rattle.containment.proofs.Filters.{calls_from, turn_none, turn_keep, turn_stop, turn_on, turn_less, calls_none, calls_turn}
 use Rattle.containment.proofs.filter.first_met.Invariants.{walk}
 use Rattle.containment.proofs.filter.first_met.Goals as goal
@@ -13,7 +13,7 @@ pub returns-in_default : goal.returns-in_default
 returns-in_default g c =
     let w = walk g c.args.candidates.now c.args.judge.now in
     let n = c.loop-candidate.key in
-    let e : find_first (reaches w.order n) (met w.order w.candidates) ≡ None = sym c.next.ensures.extent ∙ sym c.in_default.ensures.extent in
+    let e : find_first (reaches w.order n) (candidates_of w.order w.candidates) ≡ None = sym c.next.ensures.extent ∙ sym c.in_default.ensures.extent in
     let asked = ap (λ t. t.calls) c.take.ensures.count in
     record {
       extent = ap (λ r. r.extent) c.found.ensures ∙ sym (turn_none w n e) ∙ c.loop-candidate.invariant.0;
@@ -25,7 +25,7 @@ returns-in-Keep g c =
     let w = walk g c.args.candidates.now c.args.judge.now in
     let n = c.loop-candidate.key in
     let x = c.in-Some.candidate in
-    let e : find_first (reaches w.order n) (met w.order w.candidates) ≡ Some x = sym c.next.ensures.extent ∙ sym c.in-Some.ensures.extent in
+    let e : find_first (reaches w.order n) (candidates_of w.order w.candidates) ≡ Some x = sym c.next.ensures.extent ∙ sym c.in-Some.ensures.extent in
     let asked = ap (λ t. t.calls) c.take.ensures.count in
     let said = ap (λ t. t.calls) c.judge.ensures.count in
     let v : (w.judge x).verdict ≡ Keep = sym c.judge.ensures.verdict ∙ c.in-Keep.is in
@@ -40,7 +40,7 @@ returns-in-Stop g c =
     let w = walk g c.args.candidates.now c.args.judge.now in
     let n = c.loop-candidate.key in
     let x = c.in-Some.candidate in
-    let e : find_first (reaches w.order n) (met w.order w.candidates) ≡ Some x = sym c.next.ensures.extent ∙ sym c.in-Some.ensures.extent in
+    let e : find_first (reaches w.order n) (candidates_of w.order w.candidates) ≡ Some x = sym c.next.ensures.extent ∙ sym c.in-Some.ensures.extent in
     let asked = ap (λ t. t.calls) c.take.ensures.count in
     let said = ap (λ t. t.calls) c.judge.ensures.count in
     let v : (w.judge x).verdict ≡ Stop = sym c.judge.ensures.verdict ∙ c.in-Stop.is in
@@ -55,7 +55,7 @@ loop-candidate-smaller g c =
     let w = walk g c.args.candidates.now c.args.judge.now in
     let n = c.loop-candidate.key in
     let x = c.in-Some.candidate in
-    let e : find_first (reaches w.order n) (met w.order w.candidates) ≡ Some x = sym c.next.ensures.extent ∙ sym c.in-Some.ensures.extent in
+    let e : find_first (reaches w.order n) (candidates_of w.order w.candidates) ≡ Some x = sym c.next.ensures.extent ∙ sym c.in-Some.ensures.extent in
     turn_less w n x e c.in-GoOn.next (sym c.judge.ensures.verdict ∙ c.in-GoOn.is)
 
 pub loop-candidate-preserved : goal.loop-candidate-preserved
@@ -64,7 +64,7 @@ loop-candidate-preserved g c =
     let n = c.loop-candidate.key in
     let x = c.in-Some.candidate in
     let m = c.in-GoOn.next in
-    let e : find_first (reaches w.order n) (met w.order w.candidates) ≡ Some x = sym c.next.ensures.extent ∙ sym c.in-Some.ensures.extent in
+    let e : find_first (reaches w.order n) (candidates_of w.order w.candidates) ≡ Some x = sym c.next.ensures.extent ∙ sym c.in-Some.ensures.extent in
     let asked = ap (λ t. t.calls) c.take.ensures.count in
     let said = ap (λ t. t.calls) c.judge.ensures.count in
     let v : (w.judge x).verdict ≡ GoOn m = sym c.judge.ensures.verdict ∙ c.in-GoOn.is in

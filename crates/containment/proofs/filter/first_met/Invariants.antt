@@ -1,7 +1,7 @@
 use Rattle.std.proofs.Common.{◌≡◌, ◌+◌}
 use Rattle.extents.specs.Counts.{capped}
 use Rattle.containment.proofs.Filters.{Walk, judged_sound, found_from, calls_from, reached_from}
-use Rattle.containment.specs.Filter.{judged}
+use Rattle.containment.specs.Filter.{judgement_of}
 use Rattle.containment.proofs.filter.first_met.Given as goal
 
 -- the walk of this function
@@ -10,10 +10,10 @@ walk g candidates judge =
     record {
       order = g.D.Direction.order;
       candidates = g.A.Source.extents candidates;
-      rising = g.A.Source.rising candidates;
+      rising = (g.A.Source.means candidates).0;
       calls = g.A.Source.calls candidates;
       keep = g.J.Judge.keep judge;
-      judge = judged g.D.Direction.order (g.J.Judge.forward judge) (g.J.Judge.back judge);
+      judge = judgement_of g.D.Direction.order (g.J.Judge.forward judge) (g.J.Judge.back judge);
       sound = judged_sound g.D.Direction.order (g.J.Judge.keep judge) (g.J.Judge.forward judge) (g.J.Judge.back judge) (g.J.Judge.sound judge) (g.J.Judge.firm judge);
     }
 

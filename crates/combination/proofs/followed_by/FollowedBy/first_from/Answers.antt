@@ -9,7 +9,7 @@ overflow_add-first g c =
     let ls = g.A.Source.extents c.args.self.now.a in
     let x = c.in_ok-first.first in
     let e : first_start ls c.args.k ≡ Some x = sym c.first_start.ensures.extent ∙ sym c.in_ok-first.ensures.extent in
-    let h = g.A.Source.rising c.args.self.now.a in
+    let h = (g.A.Source.means c.args.self.now.a).0 in
     omega (arith, mem_proper ls x h (first_start_is ls c.args.k x h e).0)
 
 -- the second starts after the first ends
@@ -19,4 +19,4 @@ overflow_sub-second g c =
     let k = c.in_ok-first.first.end + 1 in
     let y = c.in_ok-second.second in
     let e : first_start rs k ≡ Some y = sym c.first_start-2.ensures.extent ∙ sym c.in_ok-second.ensures.extent in
-    omega (arith, (first_start_is rs k y (g.B.Source.rising c.args.self.now.b) e).1)
+    omega (arith, (first_start_is rs k y (g.B.Source.means c.args.self.now.b).0 e).1)

@@ -10,5 +10,5 @@ overflow_add-first g c =
     let k = c.in_ok-before.before in
     let x = c.in_ok-first.first in
     let e : last_end ls k ≡ Some x = sym c.last_end-2.ensures.extent ∙ sym c.in_ok-first.ensures.extent in
-    let h = g.A.Source.rising c.args.self.now.a in
+    let h = (g.A.Source.means c.args.self.now.a).0 in
     omega (arith, mem_proper ls x h (last_end_is ls k x h e).0)
