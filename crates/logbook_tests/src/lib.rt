@@ -4,16 +4,15 @@
 #[cfg(test)]
 mod tests {
     use postings::Postings;
-    use shift_logbook::book::Logbook;
-    use shift_logbook::refusal::EnterRefusal;
+    use shift_logbook::{EnterRefusal, Logbook};
     use std::process::Abort;
     use std::test::Fail;
 
     // A logbook with one entry, `a` at slot 7.
-    fn begun(rt: &(impl Abort + AllocGlobal)) -> Result<Logbook, Fail> {
-        let mut book = Logbook::new(rt.alloc())?;
+    fn begun(rt: &impl Abort) -> Logbook {
+        let mut book = Logbook::new();
         assert_eq!(rt; book.enter(b"a", 7), Ok(()));
-        Ok(book)
+        book
     }
 
     // The logbook still holds `a` at slot 7 and nothing else.
@@ -26,7 +25,7 @@ mod tests {
 
     #[test]
     fn names_have_1_to_16_bytes(rt: HostRuntime) -> Result<(), Fail> {
-        let mut book = begun(&rt)?;
+        let mut book = begun(&rt);
         assert_eq!(rt; book.enter(b"", 7), Err(EnterRefusal::NotAName));
         assert_eq!(rt;
             book.enter(b"abcdefghijklmnopq", 7),
@@ -41,7 +40,7 @@ mod tests {
 
     #[test]
     fn the_last_slot_is_accepted(rt: HostRuntime) -> Result<(), Fail> {
-        let mut book = begun(&rt)?;
+        let mut book = begun(&rt);
         assert_eq!(rt;
             book.enter(b"b", 1_073_741_824),
             Err(EnterRefusal::SlotTooLarge)
@@ -55,7 +54,7 @@ mod tests {
 
     #[test]
     fn slots_may_stay_and_not_fall(rt: HostRuntime) -> Result<(), Fail> {
-        let mut book = begun(&rt)?;
+        let mut book = begun(&rt);
         assert_eq!(rt; book.enter(b"b", 6), Err(EnterRefusal::SlotFalls));
         assert_eq!(rt; book.enter(b"a", 6), Err(EnterRefusal::SlotFalls));
         assert_eq!(rt; book.enter(b"a", 7), Err(EnterRefusal::Repeated));
@@ -67,7 +66,7 @@ mod tests {
 
     #[test]
     fn sixty_four_names(rt: HostRuntime) -> Result<(), Fail> {
-        let mut book = Logbook::new(rt.alloc())?;
+        let mut book = Logbook::new();
         for i in 0..64u8 {
             assert_eq!(rt;
                 book.enter(&[b'a' + i % 26, b'a' + i / 26], u32::from(i)),
@@ -84,7 +83,7 @@ mod tests {
 
     #[test]
     fn four_thousand_and_ninety_six_entries(rt: HostRuntime) -> Result<(), Fail> {
-        let mut book = Logbook::new(rt.alloc())?;
+        let mut book = Logbook::new();
         for slot in 0..4096u32 {
             assert_eq!(rt; book.enter(b"alarm", slot), Ok(()));
         }

@@ -1,0 +1,12 @@
+pub mod Numbers
+pub mod Chunks
+pub mod Trims
+pub mod Checked
+pub mod Searches
+pub mod Tables
+pub mod Puts
+pub mod Runs
+pub mod ReadBack
+pub mod SpellingRead
+pub mod Spelled
+pub mod Stores

@@ -1,0 +1,15 @@
+pub mod Refusals
+pub mod Fields
+pub mod Layout
+pub mod Parts
+pub mod Meaning
+pub mod Verdict
+pub mod Tests
+pub mod Obeyed
+pub mod Posted
+pub mod Cuts
+pub mod Opened
+pub mod Spelling
+pub mod Writing
+pub mod Sealing
+pub mod Reopening

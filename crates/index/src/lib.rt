@@ -1,0 +1,16 @@
+//! The sealed index: bytes that hold the postings of a shift. Sealing writes them; opening checks them once and then reads them where they lie.
+#![tactic(auto)]
+
+mod check;
+mod fields;
+mod laws;
+mod opening;
+mod parts;
+mod refusal;
+mod sealing;
+mod writer;
+
+pub use laws::{one_spelling, reopen, seal_both};
+pub use opening::SealedIndex;
+pub use refusal::{OpenRefusal, SealRefusal};
+pub use sealing::{index_size, seal};

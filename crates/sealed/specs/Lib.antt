@@ -1,3 +1,0 @@
-pub mod Sealing
-pub mod Writing
-pub mod Reopening
