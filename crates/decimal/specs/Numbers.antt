@@ -2,7 +2,7 @@
 --
 --   number_limit   the largest number of 32 bits
 --   number_of      the decimal 32-bit number that a text writes: one digit or more, and nothing else
-use Rattle.std.specs.Prelude.{ℕ, ◌-◌, ◌^◌, cond, ◌&&◌, List, length, Some, None, Option, nat_le}
+use Rattle.std.specs.Prelude.{if◌then◌else◌, ℕ, ◌-◌, ◌^◌, ◌&&◌, List, length, Some, None, Option, nat_le}
 use Rattle.std.specs.List.{list_all}
 use Rattle.std.specs.Str.Parse.{digits_value}
 use Rattle.std.specs.Char.{is_ascii_digit}
@@ -11,4 +11,7 @@ abbrev pub number_limit : ℕ
 number_limit = 2 ^ 32 - 1
 
 abbrev pub number_of : List ℕ → Option ℕ
-number_of bs = cond (nat_le 1 (length bs) && (list_all is_ascii_digit bs && nat_le (digits_value 10 bs) number_limit)) (Some (digits_value 10 bs)) None
+number_of bs =
+    if nat_le 1 (length bs) && (list_all is_ascii_digit bs && nat_le (digits_value 10 bs) number_limit)
+    then Some (digits_value 10 bs)
+    else None

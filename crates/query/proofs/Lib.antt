@@ -1,8 +1,8 @@
 pub mod Beginnings
-pub mod Bounds
-pub mod Leaves
 pub mod Leftmost
 pub mod Once
+pub mod Order
+pub mod Ranges
 pub mod Reached
 pub mod Runs
 pub mod Shapes

@@ -1,32 +1,28 @@
 -- A machine that knows the grammar and no limit: it takes the tokens of every question. Assumes nothing.
-use Rattle.std.proofs.Common.{◌≡◌, ℕ, ◌+◌, ◌-◌, false, cond, eqb, List, [], ◌∷◌, ◌++◌, sym, refl, ap, ◌∙◌, arith}
-use Rattle.std.proofs.lemmas.Bool.{cond-false, ne_eqb}
-use Rattle.query.specs.Terminals.{Terminal, ident, hash, atsign, operator, opens, closes, ends, Placed}
+use Rattle.std.proofs.Common.{◌≡◌, ℕ, List, [], ◌∷◌, ◌++◌, sym, refl, ap, ◌∙◌}
+use Rattle.query.specs.Terminals.{Bracket, plain, Terminal, operand, operator, opens, closes, ends, Placed}
 use Rattle.query.specs.Expressions.{Expr}
-use Rattle.query.specs.Grammar.{Question, alone, joined, Term, named, windowed, traced, bracket, Beginning}
+use Rattle.query.specs.Grammar.{Question, alone, joined, Term, single, bracket, Beginning}
 use Rattle.query.specs.Outcomes.{Follows}
 
 -- a term or an operator comes next, with so many brackets open; or no question goes on so
 pub data Shape : Type 0 where
-  before : ℕ → Shape
-  after : ℕ → Shape
+  before : List Bracket → Shape
+  after : List Bracket → Shape
   stuck : Shape
 
 abbrev pub move : Shape → Terminal → Shape
-move (before d) (ident s) = after d
-move (before d) (hash n) = after d
-move (before d) (atsign n) = after d
-move (before d) (operator o) = stuck
-move (before d) opens = before (d + 1)
-move (before d) closes = stuck
-move (before d) ends = stuck
-move (after d) (ident s) = stuck
-move (after d) (hash n) = stuck
-move (after d) (atsign n) = stuck
-move (after d) (operator o) = before d
-move (after d) opens = stuck
-move (after d) closes = cond (eqb d 0) stuck (after (d - 1))
-move (after d) ends = stuck
+move (before os) (operand l) = after os
+move (before os) (operator o) = stuck
+move (before os) (opens b) = before (b ∷ os)
+move (before os) closes = stuck
+move (before os) ends = stuck
+move (after os) (operand l) = stuck
+move (after os) (operator o) = before os
+move (after os) (opens b) = stuck
+move (after []) closes = stuck
+move (after (b ∷ os)) closes = after os
+move (after os) ends = stuck
 move stuck w = stuck
 
 abbrev pub run : Shape → List Placed → Shape
@@ -41,53 +37,40 @@ pub run_stuck : (ts : List Placed) → run stuck ts ≡ stuck
 run_stuck [] = refl
 run_stuck (t ∷ ts) = run_stuck ts
 
-pub after_stuck : (d : ℕ) → after d ≡ stuck → ⊥
-after_stuck d e = cc
-
--- from a bracketed question out again
-pub close_one : (d : ℕ) → move (after (d + 1)) closes ≡ after d
-close_one d =
-    let positive : eqb (d + 1) 0 ≡ false = ne_eqb (d + 1) 0 (λ z. omega arith) in
-    let back : d + 1 - 1 ≡ d = omega arith in
-    cond-false _ _ _ positive ∙ ap after back
+pub after_stuck : (os : List Bracket) → after os ≡ stuck → ⊥
+after_stuck os e = cc
 
 mutual
-  pub question_runs : {ts : List Placed} {e : Expr} → Question ts e → (d : ℕ) → run (before d) ts ≡ after d
-  question_runs (alone t) d = term_runs t d
-  question_runs (joined {ts = ts} {us = us} o at q t) d =
-      run_append (before d) ts ((operator o, at) ∷ us) ∙ ap (λ s. run s ((operator o, at) ∷ us)) (question_runs q d) ∙ term_runs t d
+  pub question_runs : {ts : List Placed} {e : Expr} → Question ts e → (os : List Bracket) → run (before os) ts ≡ after os
+  question_runs (alone t) os = term_runs t os
+  question_runs (joined {ts = ts} {us = us} o at q t) os =
+      run_append (before os) ts ((operator o, at) ∷ us) ∙ ap (λ s. run s ((operator o, at) ∷ us)) (question_runs q os) ∙ term_runs t os
 
-  term_runs : {ts : List Placed} {e : Expr} → Term ts e → (d : ℕ) → run (before d) ts ≡ after d
-  term_runs (named s at) d = refl
-  term_runs (windowed n at) d = refl
-  term_runs (traced n at) d = refl
-  term_runs (bracket {ts = ts} a b q) d =
-      run_append (before (d + 1)) ts ((closes, b) ∷ []) ∙ ap (λ s. run s ((closes, b) ∷ [])) (question_runs q (d + 1)) ∙ close_one d
+  term_runs : {ts : List Placed} {e : Expr} → Term ts e → (os : List Bracket) → run (before os) ts ≡ after os
+  term_runs (single l at) os = refl
+  term_runs (bracket {ts = ts} a b q) os =
+      run_append (before (plain ∷ os)) ts ((closes, b) ∷ []) ∙ ap (λ s. run s ((closes, b) ∷ [])) (question_runs q (plain ∷ os))
 
 -- tokens that begin a question do not stick
-pub begins_unstuck : (ts : List Placed) → Beginning ts → run (before 0) ts ≡ stuck → ⊥
+pub begins_unstuck : (ts : List Placed) → Beginning ts → run (before []) ts ≡ stuck → ⊥
 begins_unstuck ts b e =
-    let whole = question_runs b.whole 0 in
-    after_stuck 0 (sym whole ∙ run_append (before 0) ts b.rest ∙ ap (λ s. run s b.rest) e ∙ run_stuck b.rest)
+    let whole = question_runs b.whole [] in
+    after_stuck [] (sym whole ∙ run_append (before []) ts b.rest ∙ ap (λ s. run s b.rest) e ∙ run_stuck b.rest)
 
 -- no question goes on with w; the end is wrong unless a question is whole
 abbrev pub Wrong : Shape → Terminal → Type 0
-Wrong s (ident x) = move s (ident x) ≡ stuck
-Wrong s (hash n) = move s (hash n) ≡ stuck
-Wrong s (atsign n) = move s (atsign n) ≡ stuck
+Wrong s (operand l) = move s (operand l) ≡ stuck
 Wrong s (operator o) = move s (operator o) ≡ stuck
-Wrong s opens = move s opens ≡ stuck
+Wrong s (opens b) = move s (opens b) ≡ stuck
 Wrong s closes = move s closes ≡ stuck
-Wrong s ends = s ≡ after 0 → ⊥
+Wrong s ends = s ≡ after [] → ⊥
 
-no_beginning : (ts : List Placed) (w : Terminal) (at : ℕ) → move (run (before 0) ts) w ≡ stuck → Beginning (ts ++ (w, at) ∷ []) → ⊥
-no_beginning ts w at e b = begins_unstuck (ts ++ (w, at) ∷ []) b (run_append (before 0) ts ((w, at) ∷ []) ∙ e)
+no_beginning : (ts : List Placed) (w : Terminal) (at : ℕ) → move (run (before []) ts) w ≡ stuck → Beginning (ts ++ (w, at) ∷ []) → ⊥
+no_beginning ts w at e b = begins_unstuck (ts ++ (w, at) ∷ []) b (run_append (before []) ts ((w, at) ∷ []) ∙ e)
 
-pub wrong_follows : (ts : List Placed) (w : Terminal) (at : ℕ) → Wrong (run (before 0) ts) w → Follows ts w at → ⊥
-wrong_follows ts (ident s) at e f = no_beginning ts (ident s) at e f
-wrong_follows ts (hash n) at e f = no_beginning ts (hash n) at e f
-wrong_follows ts (atsign n) at e f = no_beginning ts (atsign n) at e f
+pub wrong_follows : (ts : List Placed) (w : Terminal) (at : ℕ) → Wrong (run (before []) ts) w → Follows ts w at → ⊥
+wrong_follows ts (operand l) at e f = no_beginning ts (operand l) at e f
 wrong_follows ts (operator o) at e f = no_beginning ts (operator o) at e f
-wrong_follows ts opens at e f = no_beginning ts opens at e f
+wrong_follows ts (opens b) at e f = no_beginning ts (opens b) at e f
 wrong_follows ts closes at e f = no_beginning ts closes at e f
-wrong_follows ts ends at e f = e (question_runs f.1 0)
+wrong_follows ts ends at e f = e (question_runs f.1 [])

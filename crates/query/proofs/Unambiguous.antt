@@ -1,9 +1,9 @@
 -- Tokens are one question at most: a machine with a stack builds its expression. Assumes nothing.
 use Rattle.std.proofs.Common.{◌≡◌, ℕ, List, [], ◌∷◌, ◌++◌, sym, refl, ap, ◌∙◌}
 use Rattle.extents.specs.declared.operator.Operator.{Operator}
-use Rattle.query.specs.Terminals.{Terminal, ident, hash, atsign, operator, opens, closes, ends, Placed}
-use Rattle.query.specs.Expressions.{Expr, name, windows, runs, apply}
-use Rattle.query.specs.Grammar.{Question, alone, joined, Term, named, windowed, traced, bracket}
+use Rattle.query.specs.Terminals.{Terminal, operand, operator, opens, closes, ends, Placed}
+use Rattle.query.specs.Expressions.{Expr, leaf, apply}
+use Rattle.query.specs.Grammar.{Question, alone, joined, Term, single, bracket}
 
 -- an open question: nothing of it yet, an expression, or an expression with an operator
 data Open : Type 0 where
@@ -31,11 +31,9 @@ shut (have e ∷ st) = give e st
 shut (due l o at ∷ st) = st
 
 abbrev take_one : Terminal → ℕ → List Open → List Open
-take_one (ident s) at st = give (name s at) st
-take_one (hash n) at st = give (windows n at) st
-take_one (atsign d) at st = give (runs d at) st
+take_one (operand l) at st = give (leaf l at) st
 take_one (operator o) at st = put o at st
-take_one opens at st = empty ∷ st
+take_one (opens b) at st = empty ∷ st
 take_one closes at st = shut st
 take_one ends at st = st
 
@@ -54,9 +52,7 @@ mutual
       build_append ts ((operator o, at) ∷ us) (empty ∷ st) ∙ ap (λ s. build ((operator o, at) ∷ us) s) (builds_question q st) ∙ builds_term t (due l o at ∷ st)
 
   builds_term : {ts : List Placed} {e : Expr} → Term ts e → (st : List Open) → build ts st ≡ give e st
-  builds_term (named s at) st = refl
-  builds_term (windowed n at) st = refl
-  builds_term (traced d at) st = refl
+  builds_term (single l at) st = refl
   builds_term (bracket {ts = ts} {e = e} a b q) st = build_append ts ((closes, b) ∷ []) (empty ∷ st) ∙ ap (λ s. build ((closes, b) ∷ []) s) (builds_question q st)
 
 pub one_expression : {ts : List Placed} {e f : Expr} → Question ts e → Question ts f → e ≡ f

@@ -2,23 +2,26 @@
 --
 -- | definition      | meaning                                                                |
 -- |-----------------|------------------------------------------------------------------------|
--- | Answered bs q   | the text bs is a query by the grammar and within the limits, and q is it: its steps are those of the expression in running order |
+-- | Answered bs q   | the text bs is a query by the grammar and within the limits, and q is it: its steps are those of the expression in running order, and each leaf is in range |
 -- | Complete bs r   | where the text is a query within the limits, r is that query           |
 -- | Leftmost bs r   | where the text has a leftmost fault, r is that fault                   |
 -- | Unambiguous bs  | the text says one thing at most                                        |
-use Rattle.std.specs.Prelude.{◌≡◌, ℕ, List, Err, Result, MatchResult}
+-- | Tells bs t      | what the text bs is told as: nothing where it is a query within the limits, else the number and the place of its leftmost fault |
+-- | ToldAs bs t     | it is told as t, and as nothing else                                   |
+use Rattle.std.specs.Prelude.{◌≡◌, ℕ, true, List, Some, None, Option, Err, Result, MatchResult}
+use Rattle.refusals.specs.declared.Refusal.{Refusal}
 use Rattle.query.specs.declared.fault.ReadFault.{ReadFault}
 use Rattle.query.specs.declared.query.Query.{Query}
-use Rattle.query.specs.Expressions.{Expr, postfix}
+use Rattle.query.specs.Expressions.{Expr, postfix, all_in_range}
+use Rattle.query.specs.Faults.{refusal_of}
 use Rattle.query.specs.Outcomes.{Reads, Refuses}
-use Rattle.query.specs.Bounds.{Bounded}
 use Rattle.query.specs.Queries.{steps}
 
 pub record Answered (bs : List ℕ) (q : Query) : Type 0 where
   pub expr : Expr
   pub reads : Reads bs expr
   pub order : steps q ≡ postfix expr
-  pub bounded : Bounded expr
+  pub ranged : all_in_range expr ≡ true
 
 abbrev pub Complete : List ℕ → Result Query ReadFault → Type 0
 Complete bs r = (e : Expr) → Reads bs e → MatchResult r (λ q. steps q ≡ postfix e) (λ f. ⊥)
@@ -28,3 +31,11 @@ Leftmost bs r = (f : ReadFault) → Refuses bs f → r ≡ Err f
 
 abbrev pub Unambiguous : List ℕ → Type 0
 Unambiguous bs = (e f : Expr) → Reads bs e → Reads bs f → e ≡ f
+
+abbrev pub Tells : List ℕ → Option Refusal → Type 0
+Tells bs None = (e : Expr) × Reads bs e
+Tells bs (Some r) = (f : ReadFault) × Refuses bs f × (r ≡ refusal_of f)
+
+pub record ToldAs (bs : List ℕ) (t : Option Refusal) : Type 0 where
+  pub is : Tells bs t
+  pub once : (u : Option Refusal) → Tells bs u → u ≡ t

@@ -2,27 +2,35 @@
 --
 -- | definition | meaning                                                                     |
 -- |------------|-----------------------------------------------------------------------------|
--- | Expr       | a name (its bytes, its place), windows of n slots (`#n`, its place), runs at or above d (`@d`, its place), or an operator (its place) over a left and a right operand |
+-- | Expr       | a leaf (its place), or an operator (its place) over a left and a right operand |
+-- | Act        | what a step of running it does: take a leaf, or apply an operator to the two operands before it |
+-- | Step       | an act and the place of its token                                            |
 -- | postfix    | running order: left operand, right operand, operator, each with its place    |
--- | leaves     | how many names, `#` and `@` it has                                           |
-use Rattle.std.specs.Prelude.{ℕ, ◌+◌, List, [], ◌∷◌, ◌++◌}
+-- | leaves     | how many leaves it has                                                       |
+-- | all_in_range | each of its leaves is in range                                             |
+use Rattle.std.specs.Prelude.{ℕ, ◌+◌, Bool, ◌&&◌, List, [], ◌∷◌, ◌++◌}
 use Rattle.extents.specs.declared.operator.Operator.{Operator}
-use Rattle.query.specs.Terminals.{ident, hash, atsign, operator, Placed}
+use Rattle.query.specs.Leaves.{Leaf, in_range}
 
 pub data Expr : Type 0 where
-  name : List ℕ → ℕ → Expr
-  windows : ℕ → ℕ → Expr
-  runs : ℕ → ℕ → Expr
+  leaf : Leaf → ℕ → Expr
   apply : Operator → ℕ → Expr → Expr → Expr
 
-abbrev pub postfix : Expr → List Placed
-postfix (name s at) = (ident s, at) ∷ []
-postfix (windows n at) = (hash n, at) ∷ []
-postfix (runs d at) = (atsign d, at) ∷ []
-postfix (apply o at l r) = postfix l ++ (postfix r ++ (operator o, at) ∷ [])
+pub data Act : Type 0 where
+  take_leaf : Leaf → Act
+  apply_to : Operator → Act
+
+abbrev pub Step : Type 0
+Step = Act × ℕ
+
+abbrev pub postfix : Expr → List Step
+postfix (leaf l at) = (take_leaf l, at) ∷ []
+postfix (apply o at l r) = postfix l ++ (postfix r ++ (apply_to o, at) ∷ [])
 
 abbrev pub leaves : Expr → ℕ
-leaves (name s at) = 1
-leaves (windows n at) = 1
-leaves (runs d at) = 1
+leaves (leaf l at) = 1
 leaves (apply o at l r) = leaves l + leaves r
+
+abbrev pub all_in_range : Expr → Bool
+all_in_range (leaf l at) = in_range l
+all_in_range (apply o at l r) = all_in_range l && all_in_range r

@@ -1,12 +1,14 @@
 pub mod Answers
-pub mod Bounds
 pub mod Expressions
 pub mod Faults
 pub mod Grammar
+pub mod Leaves
 pub mod Limits
 pub mod Machine
 pub mod Outcomes
+pub mod Postfix
 pub mod Queries
 pub mod Reading
 pub mod Scanning
+pub mod Steps
 pub mod Terminals

@@ -1,4 +1,4 @@
--- The limits of a query, each once. Assumes nothing.
+-- The limits of a query, each the code's constant. Assumes nothing.
 --
 -- | definition  | meaning                                               |
 -- |-------------|-------------------------------------------------------|
@@ -7,21 +7,25 @@
 -- | runs_max    | an `@` has at most this number                        |
 -- | open_max    | at most so many brackets stand open at once           |
 -- | leaf_max    | a query has at most so many names, `#` and `@`        |
-use Rattle.std.specs.Prelude.{ℕ, ◌+◌}
-use Rattle.extents.specs.Extents.{last_slot}
-use Rattle.postings.specs.Names.{name_limit}
+-- | steps_max   | it has at most so many steps                          |
+use Rattle.std.specs.Prelude.{ℕ}
+use Rattle.names.specs.Names.{name_limit}
+use Rattle.query.specs.declared.limits.TheConstants.{WINDOWS_MAX, RUNS_MAX, OPEN_MAX, LEAF_MAX, STEPS_MAX}
 
 abbrev pub name_max : ℕ
 name_max = name_limit
 
 abbrev pub windows_max : ℕ
-windows_max = last_slot + 1
+windows_max = WINDOWS_MAX
 
 abbrev pub runs_max : ℕ
-runs_max = 3000
+runs_max = RUNS_MAX
 
 abbrev pub open_max : ℕ
-open_max = 16
+open_max = OPEN_MAX
 
 abbrev pub leaf_max : ℕ
-leaf_max = 32
+leaf_max = LEAF_MAX
+
+abbrev pub steps_max : ℕ
+steps_max = STEPS_MAX

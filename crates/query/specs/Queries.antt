@@ -2,24 +2,21 @@
 --
 -- | definition | meaning                                   |
 -- |------------|-------------------------------------------|
--- | shown_action a | what a step does, as a terminal       |
--- | shown s    | what a step does, and its place           |
+-- | steps_so_far | the steps that are stored                |
 -- | steps q    | the steps of the query q in running order |
+-- | said q     | the expression whose steps they are       |
 use Rattle.std.specs.Prelude.{List, map}
-use Rattle.query.specs.declared.query.Action.{Action}
-use Rattle.query.specs.declared.query.Action.TheVariants as action
-use Rattle.query.specs.declared.query.Step.{Step}
 use Rattle.query.specs.declared.query.Query.{Query}
-use Rattle.query.specs.Terminals.{Terminal, ident, hash, atsign, operator, Placed}
+use Rattle.query.specs.declared.query.Steps.{Steps}
+use Rattle.query.specs.Expressions.{Expr, Step}
+use Rattle.query.specs.Postfix.{expr_of}
+use Rattle.query.specs.Steps.{shown}
 
-abbrev pub shown_action : Action → Terminal
-shown_action (action.Name s) = ident s.now
-shown_action (action.Windows n) = hash n
-shown_action (action.Runs n) = atsign n
-shown_action (action.Apply o) = operator o
+abbrev pub steps_so_far : Steps → List Step
+steps_so_far s = map shown s.items.items
 
-abbrev pub shown : Step → Placed
-shown s = (shown_action s.action, s.place)
-
-abbrev pub steps : Query → List Placed
+abbrev pub steps : Query → List Step
 steps q = map shown q.steps.items
+
+abbrev pub said : Query → Expr
+said q = expr_of (steps q)

@@ -1,18 +1,15 @@
-// The lexer: the token that begins at a place of a text, by longest match.
-ghost use Rattle.std.specs.Prelude.{◌≡◌, ◌+◌, ◌<◌, ◌≤◌, length, drop, IfOk};
+//! The lexer: the token that begins at a place of a text, by longest match.
+ghost use Rattle.std.specs.Prelude.{◌≡◌, ◌<◌, ◌≤◌, length, IfOk};
 ghost use Rattle.std.specs.List.{prefix_len};
-ghost use Rattle.postings.specs.Names.{name_byte};
-ghost use Rattle.query.specs.Scanning.{space, digit, name_at, amount_at, not_at, scan_from};
-ghost use Rattle.query.specs.Reading.{scanned, Ahead};
+ghost use Rattle.names.specs.Names.{name_byte};
+ghost use Rattle.query.specs.Scanning.{space, digit, name_at, amount_at, negation, scan_at, scan_from};
+ghost use Rattle.query.specs.Reading.{terminal, weight, scan_of, scan_of_token, Ahead};
 
 use crate::fault::TokenFault;
+use crate::limits::{RUNS_MAX, WINDOWS_MAX};
 use crate::token::{Located, Token};
-use extents::operator::Operator;
-use postings::name::{NAME_MAX, is_name_byte};
-
-const WINDOWS_MAX: u32 = 1_073_741_824;
-
-const RUNS_MAX: u32 = 3_000;
+use extents::Operator;
+use names::{NAME_MAX, is_name_byte};
 
 // Stays: three functions of one library call each; a helper that takes the test would be that call again.
 // How many spaces the text begins with.
@@ -39,109 +36,95 @@ fn digits_len(text: &[u8]) -> usize
     text.iter().take_while(|b| b.is_ascii_digit()).count()
 }
 
-// Stays: text and place are passed one by one; a struct of the two would be made in next_token alone.
-// The digits after the mark at `place`: the number that they write, and where they end.
-fn amount(text: &[u8], place: usize, limit: u32) -> Result<(u32, usize), TokenFault>
-    requires { place < length text.now }
-    ensures further { IfOk result (λ p. place < p.1) }
-    ensures within { IfOk result (λ p. p.1 ≤ length text.now) }
-    ensures is { result ≡ amount_at limit (drop (place + 1) text.now) place }
+// In the scanners below, `rest` is the text from `place` on. Each answers its token with the token's length, or the fault at `place`.
+
+// The number after the mark that `rest` begins with.
+fn amount(rest: &[u8], place: usize, limit: u32) -> Result<(u32, usize), TokenFault>
+    requires { 0 < length rest.now }
+    ensures within { IfOk result (λ t. t.1 ≤ length rest.now) }
+    ensures is { result ≡ amount_at limit rest.now place }
 {
-    let rest = &text[place + 1..];
-    let digits = digits_len(rest);
-    if digits == 0 {
+    let len = digits_len(&rest[1..]);
+    if len == 0 {
         return Err(TokenFault::Unknown(place));
     }
-    match decimal::parse(&rest[..digits]) {
-        Some(n) if n <= limit => Ok((n, place + 1 + digits)),
+    match decimal::parse(&rest[1..][..len]) {
+        Some(n) if n <= limit => Ok((n, 1 + len)),
         _ => Err(TokenFault::Over(place)),
     }
 }
 
-// Stays: each of three functions says that its own token lies ahead; one word for a clause of one line would hide it.
-// The name that begins at `place`.
-fn name<'a>(text: &'a [u8], place: usize) -> Result<Located<'a>, TokenFault>
-    requires { place ≤ length text.now }
-    ensures ahead { IfOk result (λ f. Ahead place (length text.now) f) }
-    ensures sees { scanned result ≡ name_at (drop place text.now) place }
+// The name that `rest` begins with.
+fn name<'a>(rest: &'a [u8], place: usize) -> Result<(Token<'a>, usize), TokenFault>
+    ensures within { IfOk result (λ t. t.1 ≤ length rest.now) }
+    ensures word { IfOk result (λ t. weight (terminal t.0) ≡ 0) }
+    ensures sees { scan_of_token place result ≡ name_at rest.now place }
 {
-    let rest = &text[place..];
     let len = name_len(rest);
     if len > NAME_MAX {
         return Err(TokenFault::Over(place));
     }
-    Ok(Located {
-        token: Token::Name(&rest[..len]),
-        place,
-        after: place + len,
-    })
+    Ok((Token::Name(&rest[..len]), len))
 }
 
-// The operator that begins with the `!` at `place`.
-fn negated<'a>(text: &'a [u8], place: usize) -> Result<Located<'a>, TokenFault>
-    requires { place < length text.now }
-    ensures ahead { IfOk result (λ f. Ahead place (length text.now) f) }
-    ensures sees { scanned result ≡ not_at text.now place }
+// The operator that `rest` begins with after its `!`.
+fn negated(rest: &[u8]) -> Option<Operator>
+    ensures { result ≡ negation rest.now }
 {
-    if place + 1 == text.len() {
-        return Err(TokenFault::Unknown(place));
+    match char::from(*rest.get(1)?) {
+        '<' => Some(Operator::NotContainedIn),
+        '>' => Some(Operator::NotContaining),
+        _ => None,
     }
-    let operator = match char::from(text[place + 1]) {
-        '<' => Operator::NotContainedIn,
-        '>' => Operator::NotContaining,
+}
+
+// The token that `rest` begins with, or the end.
+fn token_at<'a>(rest: &'a [u8], place: usize) -> Result<(Token<'a>, usize), TokenFault>
+    ensures within { IfOk result (λ t. t.1 ≤ length rest.now) }
+    ensures weighs { IfOk result (λ t. weight (terminal t.0) ≤ t.1) }
+    ensures sees { scan_of_token place result ≡ scan_at rest.now place }
+{
+    if rest.is_empty() {
+        return Ok((Token::End, 0));
+    }
+    let first = rest[0];
+    let found = match char::from(first) {
+        '(' => (Token::Open, 1),
+        ')' => (Token::Close, 1),
+        '<' => (Token::Operator(Operator::ContainedIn), 1),
+        '>' => (Token::Operator(Operator::Containing), 1),
+        '&' => (Token::Operator(Operator::BothOf), 1),
+        '|' => (Token::Operator(Operator::OneOf), 1),
+        ';' => (Token::Operator(Operator::FollowedBy), 1),
+        '!' => match negated(rest) {
+            Some(operator) => (Token::Operator(operator), 2),
+            None => return Err(TokenFault::Unknown(place)),
+        },
+        '#' => {
+            let (width, len) = amount(rest, place, WINDOWS_MAX)?;
+            (Token::Windows(width), len)
+        }
+        '@' => {
+            let (degrees, len) = amount(rest, place, RUNS_MAX)?;
+            (Token::Runs(degrees), len)
+        }
+        _ if is_name_byte(first) => name(rest, place)?,
         _ => return Err(TokenFault::Unknown(place)),
     };
-    Ok(Located {
-        token: Token::Operator(operator),
-        place,
-        after: place + 2,
-    })
+    Ok(found)
 }
 
 // The token that follows the place `from`, spaces passed over.
 pub(crate) fn next_token<'a>(text: &'a [u8], from: usize) -> Result<Located<'a>, TokenFault>
     requires { from ≤ length text.now }
     ensures ahead { IfOk result (λ f. Ahead from (length text.now) f) }
-    ensures sees { scanned result ≡ scan_from text.now from }
+    ensures sees { scan_of result ≡ scan_from text.now from }
 {
     let place = from + spaces_len(&text[from..]);
-    if place == text.len() {
-        return Ok(Located {
-            token: Token::End,
-            place,
-            after: place,
-        });
-    }
-    let first = text[place];
-    let token = match char::from(first) {
-        '(' => Token::Open,
-        ')' => Token::Close,
-        '<' => Token::Operator(Operator::ContainedIn),
-        '>' => Token::Operator(Operator::Containing),
-        '&' => Token::Operator(Operator::BothOf),
-        '|' => Token::Operator(Operator::OneOf),
-        ';' => Token::Operator(Operator::FollowedBy),
-        '!' => return negated(text, place),
-        '#' => {
-            return amount(text, place, WINDOWS_MAX).map(|(n, after)| Located {
-                token: Token::Windows(n),
-                place,
-                after,
-            });
-        }
-        '@' => {
-            return amount(text, place, RUNS_MAX).map(|(n, after)| Located {
-                token: Token::Runs(n),
-                place,
-                after,
-            });
-        }
-        _ if is_name_byte(first) => return name(text, place),
-        _ => return Err(TokenFault::Unknown(place)),
-    };
+    let (token, len) = token_at(&text[place..], place)?;
     Ok(Located {
         token,
         place,
-        after: place + 1,
+        after: place + len,
     })
 }

@@ -1,8 +1,16 @@
-// Reading a query: bytes to tokens, tokens to a query in postfix, or the leftmost fault.
+//! Reading a query: bytes to tokens, tokens to a query in running order, or the leftmost fault. The rules stand in docs/queries.md.
 #![tactic(auto)]
 
-pub mod fault;
+mod fault;
+mod leaf;
 mod lexer;
-pub mod query;
-pub mod reader;
+mod limits;
+mod query;
+mod reader;
 mod token;
+
+pub use fault::{ReadFault, TokenFault};
+pub use leaf::Leaf;
+pub use limits::{LEAF_MAX, OPEN_MAX, RUNS_MAX, STEPS_MAX, WINDOWS_MAX};
+pub use query::{Action, Query, Step};
+pub use reader::read;

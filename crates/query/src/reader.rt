@@ -1,23 +1,23 @@
-// The reader: a recursive descent over the tokens, which stops at the leftmost fault.
+//! The reader: a recursive descent over the tokens, which stops at the leftmost fault.
 ghost use Rattle.std.specs.Prelude.{◌≤◌, length, IfOk, IfErr, MatchResult};
-ghost use Rattle.query.specs.Answers.{Answered, Complete, Leftmost, Unambiguous};
+ghost use Rattle.refusals.specs.Refusals.{refusal_in};
+ghost use Rattle.query.specs.Answers.{Answered, Complete, Leftmost, Unambiguous, ToldAs};
+ghost use Rattle.query.specs.Faults.{refusal_of};
+ghost use Rattle.query.specs.Limits.{open_max};
 ghost use Rattle.query.specs.Outcomes.{Refuses};
 ghost use Rattle.query.specs.Reading.{bytes, Sound, Taken, Faulty, Stopped, ReadTerm, ReadQuestion};
 
 use crate::fault::ReadFault;
 use crate::lexer::next_token;
-use crate::query::{Action, Query};
+use crate::limits::{LEAF_MAX, OPEN_MAX};
+use crate::query::{Action, Query, Steps};
 use crate::token::{Located, Token};
 
-const OPEN_MAX: u8 = 16;
-
-const LEAF_MAX: u8 = 32;
-
-// The query so far, where the text goes on, and how many leaves have been read.
+// The steps so far, where the text goes on, and how many leaves have been read.
 #[derive(Drop)]
 struct Reader<'a> {
     text: &'a [u8],
-    query: Query<'a>,
+    steps: Steps<'a>,
     at: usize,
     terms: u8,
 }
@@ -38,7 +38,7 @@ impl<'a> Reader<'a> {
     #[cycle(question_term)]
     fn question(&mut self, depth: u8) -> Result<Located<'a>, ReadFault>
         requires sound { Sound self.old }
-        requires shallow { depth ≤ 16 }
+        requires shallow { depth ≤ open_max }
         ensures { MatchResult result (λ f. ReadQuestion self.old self.new depth f) (λ e. Stopped self.old depth e) }
     {
         self.term(depth)?;
@@ -50,60 +50,60 @@ impl<'a> Reader<'a> {
             };
             // One term alone: operators group from the left.
             self.term(depth)?;
-            self.query.push(Action::Apply(operator), found.place);
+            self.steps.push(Action::Apply(operator), found.place);
         }
     }
 
-    // A name, a `#`, an `@`, or a question in brackets.
+    // A leaf, or a question in brackets.
     #[cycle(question_term)]
     fn term(&mut self, depth: u8) -> Result<(), ReadFault>
         requires sound { Sound self.old }
-        requires shallow { depth ≤ 16 }
+        requires shallow { depth ≤ open_max }
         ensures { MatchResult result (λ _. ReadTerm self.old self.new depth) (λ e. Stopped self.old depth e) }
     {
         let found = self.take()?;
-        // Stays: three tokens carry over into actions, and a TryFrom for them would be as long.
-        let action = match found.token {
-            Token::Name(name) => Action::Name(name),
-            Token::Windows(n) => Action::Windows(n),
-            Token::Runs(n) => Action::Runs(n),
-            Token::Open => {
-                if depth == OPEN_MAX {
-                    return Err(ReadFault::TooDeep(found.place));
-                }
-                let last = self.question(depth + 1)?;
-                return match last.token {
-                    Token::Close => Ok(()),
-                    _ => Err(ReadFault::Unexpected(last.place)),
-                };
+        if let Token::Open = found.token {
+            if depth == OPEN_MAX {
+                return Err(ReadFault::TooDeep(found.place));
             }
-            _ => return Err(ReadFault::Unexpected(found.place)),
+            let last = self.question(depth + 1)?;
+            return match last.token {
+                Token::Close => Ok(()),
+                _ => Err(ReadFault::Unexpected(last.place)),
+            };
+        }
+        let Some(leaf) = found.token.leaf() else {
+            return Err(ReadFault::Unexpected(found.place));
         };
         if self.terms == LEAF_MAX {
             return Err(ReadFault::TooMany(found.place));
         }
         self.terms += 1;
-        self.query.push(action, found.place);
+        self.steps.push(Action::Leaf(leaf), found.place);
         Ok(())
     }
 }
 
-// The query that a text writes, or the text's leftmost fault.
+/// The query that a text writes. It allocates nothing.
+///
+/// # Errors
+/// The text's leftmost fault; of two faults at one token, that with the lower number (docs/queries.md).
 pub fn read<'a>(text: &'a [u8]) -> Result<Query<'a>, ReadFault>
     ensures outcome { MatchResult result (λ q. Answered text.now q) (λ f. Refuses text.now f) }
+    ensures told { ToldAs text.now (refusal_in refusal_of result) }
     ensures complete { Complete text.now result }
     ensures leftmost { Leftmost text.now result }
     ensures unambiguous { Unambiguous text.now }
 {
     let mut reader = Reader {
         text,
-        query: Query::new(),
+        steps: Steps::new(),
         at: 0,
         terms: 0,
     };
     let last = reader.question(0)?;
     match last.token {
-        Token::End => Ok(reader.query),
+        Token::End => Ok(Query::new(reader.steps)),
         _ => Err(ReadFault::Unexpected(last.place)),
     }
 }

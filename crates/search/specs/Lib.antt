@@ -4,5 +4,7 @@ pub mod Law
 pub mod Searches
 pub mod Run
 pub mod Sides
+pub mod SideLaws
 pub mod Stacks
 pub mod Told
+pub mod WorkAreas

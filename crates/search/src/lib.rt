@@ -1,15 +1,15 @@
-// A typed query, run over any postings and a trace of temperatures, in two areas that the caller lends.
+//! A typed query, run over any postings and a trace of temperatures, in two areas that the caller lends.
 #![tactic(auto)]
 
-pub mod area;
-mod evaluate;
-pub mod fault;
-pub mod fetch;
-mod finish;
-mod join;
-mod log;
+mod area;
+mod fault;
+mod fetching;
 mod operand;
-mod operand_stack;
 mod run;
-pub mod search;
-mod side;
+mod searching;
+mod stack;
+
+pub use area::{BLANK, WorkAreas, clear_behind};
+pub use fault::SearchFault;
+pub use fetching::fetch;
+pub use searching::{search, search_query};

@@ -1,29 +1,104 @@
-// What waits for its operator: so many extents on top of the stack area, or a source that is not stored.
+//! What waits for its operator: extents that are stored, or a source that is not; and either as a source.
 ghost use Rattle.std.specs.Prelude.{◌≡◌};
-ghost use Rattle.search.specs.Run.{size};
+ghost use Rattle.extents.specs.Extents.{ExtentList};
+ghost use Rattle.search.specs.Law.{each_one};
+ghost use Rattle.search.specs.Run.{pending_of, size};
+ghost use Rattle.search.specs.Sides.{side_list, side_expression};
 
-#[derive(Clone, Copy)]
-pub(crate) enum Operand {
+use extents::{Extent, Found, Ordered, Source, StoredList, TraceRuns, Windows};
+
+/// An operand as a source.
+#[derive(Drop)]
+pub(crate) enum Side<'a> {
+    Stored(StoredList<'a>),
+    Windows(Windows),
+    Runs(TraceRuns<'a>),
+}
+
+// Stays: a line for each kind of source in each access.
+impl Source for Side<'_> {
+    ghost use Rattle.search.specs.SideLaws.{side_means};
+
+    ghost extents = { side_list };
+
+    ghost expression = { side_expression };
+
+    ghost calls = { λ s. each_one };
+
+    ghost means = { side_means };
+
+    fn first_start(&self, k: u32) -> Found {
+        match self {
+            Side::Stored(list) => list.first_start(k),
+            Side::Windows(windows) => windows.first_start(k),
+            Side::Runs(runs) => runs.first_start(k),
+        }
+    }
+
+    fn first_end(&self, k: u32) -> Found {
+        match self {
+            Side::Stored(list) => list.first_end(k),
+            Side::Windows(windows) => windows.first_end(k),
+            Side::Runs(runs) => runs.first_end(k),
+        }
+    }
+
+    fn last_end(&self, k: u32) -> Found {
+        match self {
+            Side::Stored(list) => list.last_end(k),
+            Side::Windows(windows) => windows.last_end(k),
+            Side::Runs(runs) => runs.last_end(k),
+        }
+    }
+
+    fn last_start(&self, k: u32) -> Found {
+        match self {
+            Side::Stored(list) => list.last_start(k),
+            Side::Windows(windows) => windows.last_start(k),
+            Side::Runs(runs) => runs.last_start(k),
+        }
+    }
+}
+
+/// What waits for its operator.
+#[derive(Drop)]
+pub(crate) enum Operand<'a> {
+    /// So many extents on top of the stack area.
     Stored(usize),
-    Windows(u32),
-    Runs(u32),
+    /// A source that is not stored.
+    Unstored(Side<'a>),
 }
 
 // Stays: by hand, since a variant that holds a value cannot be derived as the default. An operand stack needs one.
-impl Default for Operand {
-    fn default() -> Operand {
+impl<'a> Default for Operand<'a> {
+    ghost use Rattle.search.specs.declared.operand.Operand.TheVariants.{Stored as stored};
+
+    ghost is_default = { λ o. o ≡ stored 0 };
+
+    fn default() -> Operand<'a> {
         Operand::Stored(0)
     }
 }
 
-impl Operand {
-    // How many extents are stored of it.
-    pub(crate) fn size(self) -> usize
-        ensures { result ≡ size self }
+impl<'a> Operand<'a> {
+    /// How many extents are stored of it.
+    pub(crate) fn size(&self) -> usize
+        ensures { result ≡ size self.now }
     {
         match self {
-            Operand::Stored(n) => n,
-            Operand::Windows(_) | Operand::Runs(_) => 0,
+            Operand::Stored(n) => *n,
+            Operand::Unstored(_) => 0,
+        }
+    }
+
+    /// The operand as a source, over what is stored of it.
+    pub(crate) fn side(self, items: &'a [Extent]) -> Side<'a>
+        requires { ExtentList items.now }
+        ensures { side_list result ≡ (pending_of self.entry items.now).extents }
+    {
+        match self {
+            Operand::Stored(_) => Side::Stored(StoredList::over(Ordered { items })),
+            Operand::Unstored(side) => side,
         }
     }
 }

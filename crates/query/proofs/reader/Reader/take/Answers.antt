@@ -13,4 +13,4 @@ pub returns-clause-taken : goal.returns-clause-taken
 unfolding scan
 returns-clause-taken c =
     let said = c.in_ok-found.ensures in
-    record { is = sym said.sees; within = said.ahead.1; further = said.ahead.0; same = refl; moved = refl; terms = refl; query = refl }
+    record { is = sym said.sees; within = said.ahead.1; further = said.ahead.0; same = refl; moved = refl; terms = refl; steps = refl }

@@ -1,0 +1,16 @@
+//! The limits of a query, each once.
+
+/// The widest windows that a `#` may name, in slots.
+pub const WINDOWS_MAX: u32 = 1_073_741_824;
+
+/// The highest limit of runs that an `@` may name, in degrees.
+pub const RUNS_MAX: u32 = 3_000;
+
+/// How many brackets may stand open at once.
+pub const OPEN_MAX: u8 = 16;
+
+/// How many leaves a query may have: names, `#` and `@`.
+pub const LEAF_MAX: u8 = 32;
+
+/// How many steps a query can have: its leaves, and an operator between each two.
+pub const STEPS_MAX: usize = 2 * LEAF_MAX as usize - 1;

@@ -1,0 +1,6 @@
+use Rattle.std.proofs.Common.{arith}
+use Rattle.search.proofs.Clears.{blank_end}
+use Rattle.search.proofs.searching.search.Goals as goal
+
+pub returns : goal.returns
+returns g c = c.search_from.ensures (blank_end _ c.args.stack.now (omega arith)) (blank_end _ c.args.scratch.now (omega arith))
