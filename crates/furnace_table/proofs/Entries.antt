@@ -1,6 +1,6 @@
 -- The ten entries are all accepted, so the log that they make obeys the law of posting lists. Assumes nothing.
 use Rattle.std.proofs.Common.{◌≡◌, [], refl, subst}
-use Rattle.postings.specs.Names.{is_name}
+use Rattle.names.specs.Names.{is_name}
 use Rattle.postings.specs.Lists.{Lawful}
 use Rattle.shift_logbook.specs.Ledger.{ledger_lists, judge, entered}
 use Rattle.shift_logbook.specs.History.{ledger_after}

@@ -3,9 +3,8 @@ use Rattle.std.proofs.Common.{◌≡◌, ℕ, zero, suc, ◌+◌, ◌<◌, ◌�
 use Rattle.std.specs.Str.{bytes_eq}
 use Rattle.std.proofs.lemmas.List.{get_or_push, get_or_append_left, length_push}
 use Rattle.std.proofs.lemmas.Bool.{cases_lt, eqb-false, ltb-false, or_parts}
-use Rattle.extents.specs.Extents.{last_slot}
-use Rattle.postings.specs.Names.{is_name}
-use Rattle.postings.specs.Lists.{Lawful}
+use Rattle.names.specs.Names.{is_name}
+use Rattle.postings.specs.Lists.{Lawful, last_slot}
 use Rattle.postings.specs.Rising.{Rising}
 use Rattle.postings.proofs.Firsts.{rising_push}
 use Rattle.shift_logbook.specs.Books.{member}

@@ -6,9 +6,9 @@ use Rattle.std.proofs.Common.{◌≡◌, ℕ, zero, suc, ◌+◌, ◌<◌, ◌�
 use Rattle.query.specs.Expressions.{Expr}
 use Rattle.query.specs.Grammar.{Question}
 use Rattle.query.specs.Limits.{open_max}
-use Rattle.query.specs.Outcomes.{Reads, weigh, count, open_by, Enters, Shallow}
+use Rattle.query.specs.Outcomes.{Reads, weigh, count, close_one, open_by, Enters, Shallow}
 use Rattle.query.specs.Scanning.{Scan, token, fault, scan, Lexes, none, more}
-use Rattle.query.specs.Terminals.{Terminal, ident, hash, atsign, operator, opens, closes, ends, Placed}
+use Rattle.query.specs.Terminals.{Bracket, Terminal, operand, operator, opens, closes, ends, Placed}
 
 abbrev pub on_from : (ℕ → List Placed × ℕ) → ℕ → Scan → List Placed × ℕ
 on_from rest p (token w at after) = ((w, at) ∷ (rest after).0, (rest after).1)
@@ -27,25 +27,27 @@ lexes zero bs p = none
 lexes (suc n) bs p = lexes_on bs (tokens n bs) (lexes n bs) p (scan bs p) refl
 
 -- a token adds one leaf and one open bracket at most
-light : (w : Terminal) (d : ℕ) → d < open_max → (weigh w ≤ 1) × (open_by w d ≤ d + 1) × Enters w d
-light (ident s) d h = (omega arith, omega arith, tt)
-light (hash n) d h = (omega arith, omega arith, tt)
-light (atsign n) d h = (omega arith, omega arith, tt)
-light (operator o) d h = (omega arith, omega arith, tt)
-light opens d h = (omega arith, omega arith, h)
-light closes d h = (omega arith, omega arith, tt)
-light ends d h = (omega arith, omega arith, tt)
+close_short : (os : List Bracket) → length (close_one os) ≤ length os + 1
+close_short [] = omega arith
+close_short (b ∷ os) = omega arith
+
+light : (w : Terminal) (os : List Bracket) → length os < open_max → (weigh w ≤ 1) × (length (open_by w os) ≤ length os + 1) × Enters w os
+light (operand l) os h = (omega arith, omega arith, tt)
+light (operator o) os h = (omega arith, omega arith, tt)
+light (opens b) os h = (omega arith, omega arith, h)
+light closes os h = (omega arith, close_short os, tt)
+light ends os h = (omega arith, omega arith, tt)
 
 -- so a few tokens keep the limits
 few_leaves : (ts : List Placed) → count ts ≤ length ts
 few_leaves [] = omega arith
-few_leaves (t ∷ ts) = omega (arith, (light t.0 0 (omega arith)).0, few_leaves ts)
+few_leaves (t ∷ ts) = omega (arith, (light t.0 [] (omega arith)).0, few_leaves ts)
 
-few_open : (ts : List Placed) (d : ℕ) → d + length ts ≤ open_max → Shallow ts d
-few_open [] d h = tt
-few_open (t ∷ ts) d h =
-    let l = light t.0 d (omega arith) in
-    (l.2, few_open ts (open_by t.0 d) (omega (arith, l.1)))
+few_open : (ts : List Placed) (os : List Bracket) → length os + length ts ≤ open_max → Shallow ts os
+few_open [] os h = tt
+few_open (t ∷ ts) os h =
+    let l = light t.0 os (omega arith) in
+    (l.2, few_open ts (open_by t.0 os) (omega (arith, l.1)))
 
 -- where the first n tokens are the whole text, and a question that says e
 pub reads_by : (n : ℕ) (bs : List ℕ) {e : Expr} → Question (tokens n bs 0).0 e → scan bs (tokens n bs 0).1 ≡ token ends (length bs) (length bs) → T (leb (length (tokens n bs 0).0) open_max) → Reads bs e
@@ -60,5 +62,5 @@ reads_by n bs parsed ended few =
       ended = ended;
       parsed = parsed;
       few = omega (arith, h, few_leaves (tokens n bs 0).0);
-      shallow = few_open (tokens n bs 0).0 0 (omega (arith, h));
+      shallow = few_open (tokens n bs 0).0 [] (omega (arith, h));
     }

@@ -9,8 +9,8 @@
 -- | Row          | a line of the table: a text, the extents that it finds, and the calls that finding them takes |
 -- | rows         | the table                                                                                     |
 -- | Holds row    | the text reads as an expression; its search is not refused, lists these extents, which are exactly those that the expression describes, and makes so many calls |
--- | Given row    | a search answered how many extents the line has, and its calls; the extents stand at the front of the stack area, and the rest of both areas is cleared |
--- | Answered row | every search for the text over this log and in these areas, whatever store of postings it runs over, answers so |
+-- | Gives row    | a search answered how many extents the line has, and its calls; the extents stand at the front of the stack area, and the rest of both areas is cleared |
+-- | EverySearchGives row | every search for the text over this log and in these areas, whatever store of postings it runs over, answers so |
 -- | FurnaceTable | put to an empty ledger the ten entries are all accepted, and every line holds and is answered so           |
 use Rattle.std.specs.Prelude.{◌≡◌, ℕ, ◌-◌, List, [], ◌∷◌, ◌++◌, length, replicate, None, Ok, codes, Result}
 use Rattle.std.specs.List.{AllByRecursion}
@@ -22,8 +22,8 @@ use Rattle.operators.specs.declared.listing.Listing.{Listing}
 use Rattle.query.specs.Expressions.{Expr}
 use Rattle.query.specs.Outcomes.{Reads}
 use Rattle.search.specs.declared.fault.SearchFault.{SearchFault}
-use Rattle.search.specs.Meaning.{Log, denotes, listed}
-use Rattle.search.specs.Law.{Room, search_fault, query_calls}
+use Rattle.search.specs.Meaning.{Log, over, denotes, listed}
+use Rattle.search.specs.Law.{Room, Areas, search_fault, query_calls}
 use Rattle.search.specs.Searches.{Searched, blank}
 
 abbrev pub entries : List Entry
@@ -41,7 +41,7 @@ entries =
     ∷ []
 
 abbrev pub furnace_log : Log
-furnace_log = record { lists = ledger_lists entries; trace = [] }
+furnace_log = over (ledger_lists entries) []
 
 abbrev pub areas : Room
 areas = record { stack = 8192; scratch = 8192 }
@@ -80,15 +80,15 @@ pub record Holds (row : Row) : Type 0 where
   pub means : Lists (denotes furnace_log expr) row.extents
   pub count : query_calls furnace_log expr ≡ row.calls
 
-pub record Given (row : Row) (r : Result Listing SearchFault) (stack scratch : List Extent) : Type 0 where
+pub record Gives (row : Row) (r : Result Listing SearchFault) (left : Areas) : Type 0 where
   pub answer : r ≡ Ok (record { n = length row.extents; calls = row.calls })
-  pub stack_is : stack ≡ row.extents ++ replicate (areas.stack - length row.extents) blank
-  pub scratch_is : scratch ≡ replicate areas.scratch blank
+  pub stack_is : left.stack ≡ row.extents ++ replicate (areas.stack - length row.extents) blank
+  pub scratch_is : left.scratch ≡ replicate areas.scratch blank
 
-abbrev pub Answered : Row → Type 0
-Answered row = (r : Result Listing SearchFault) (stack scratch : List Extent) → Searched furnace_log areas row.text r stack scratch → Given row r stack scratch
+abbrev pub EverySearchGives : Row → Type 0
+EverySearchGives row = (r : Result Listing SearchFault) (left : Areas) → Searched furnace_log areas row.text r left → Gives row r left
 
 pub record FurnaceTable : Type 0 where
   pub accepted : ledger_after [] entries ≡ entries
   pub holds : AllByRecursion Holds rows
-  pub answered : AllByRecursion Answered rows
+  pub answered : AllByRecursion EverySearchGives rows

@@ -1,2 +1,2 @@
-pub mod Histories
 pub mod Refusals
+pub mod Histories

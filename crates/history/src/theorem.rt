@@ -1,93 +1,99 @@
-// The search theorem, whole, on the contract of one call.
-ghost use Rattle.std.specs.Prelude.{◌≡◌, min, List, map, length, take, drop};
+//! What the search promises, whole, on the contract of one call.
+ghost use Rattle.std.specs.Prelude.{◌≡◌, min, List, [], map, length, take, drop};
 ghost use Rattle.extents.specs.declared.extent.Extent.{Extent};
 ghost use Rattle.extents.specs.declared.operator.Operator.{Operator};
 ghost use Rattle.extents.specs.Accesses.{Answer as Nearest};
-ghost use Rattle.extents.specs.Extents.{ExtentList};
-ghost use Rattle.extents.specs.Regions.{Members, operator_set, Lists};
+ghost use Rattle.extents.specs.Expressions.{Expression, over as composed, set_of};
+ghost use Rattle.extents.specs.Regions.{Lists};
 ghost use Rattle.operators.specs.Operators.{operator_list, operator_calls};
-ghost use Rattle.search.specs.Law.{room, TakesFewCalls};
-ghost use Rattle.search.specs.Meaning.{over, MeansItsSet};
+ghost use Rattle.refusals.specs.Refusals.{refusal_in};
+ghost use Rattle.search.specs.Faults.{refusal_of as fault_refusal};
+ghost use Rattle.search.specs.Law.{Areas, areas, room_of};
+ghost use Rattle.search.specs.Meaning.{over};
 ghost use Rattle.search.specs.Searches.{Searched};
-ghost use Rattle.shift_logbook.specs.Books.{Means};
-ghost use Rattle.shift_logbook.specs.Ledger.{Entry};
-ghost use Rattle.history.specs.Histories.{Areas, areas, asked, ledger_after, History};
-ghost use Rattle.history.specs.Refusals.{refusal_of};
+ghost use Rattle.shift_logbook.specs.declared.book.Logbook.{Logbook as Book};
+ghost use Rattle.shift_logbook.specs.Books.{HasLedger};
+ghost use Rattle.history.specs.Histories.{request_of, IsReplayed};
 
 use super::call::{Call, Reply};
-use super::replay::replay;
-use extents::access::Access;
-use extents::extent::{Extent, Found};
-use extents::operator::Operator;
-use extents::source::Source;
-use operators::evaluate::evaluate;
-use operators::listing::Listing;
+use super::turn::replay;
+use extents::{Access, Extent, Found, Operator, Source};
+use operators::{Listing, evaluate};
 use postings::Postings;
-use search::fault::SearchFault;
-use search::search::search;
-use shift_logbook::book::Logbook;
+use refusals::Refusal;
+use search::{SearchFault, search};
+use shift_logbook::Logbook;
 
-// What an access found, how many calls were made on the logbook, and what a search answered, its refusal by number and place.
-// Stays: a refusal is told by number and place, and clause `told` says that these are its own.
-#[derive(Clone, Copy, Debug, PartialEq, Eq)]
+/// What each of the three groups of calls was answered.
+#[derive(Debug, Drop)]
 pub struct Outcome {
+    /// What the access found.
     pub found: Found,
-    pub made: usize,
+    /// What the search answered.
     pub answer: Result<Listing, SearchFault>,
-    pub refusal: Option<(u8, usize)>,
+    /// The number and the place of its refusal.
+    pub refusal: Option<Refusal>,
+    /// How many of the calls on a new logbook were made.
+    pub made: usize,
+    /// That logbook after them.
+    pub book: Logbook,
 }
 
-// Asks an operator over any two sources for an extent, puts a list of enters and searches to a logbook, and searches any postings.
-// It exists for what it promises:
-// accesses: the extent found is the one that the access names in the operator's set over the sources' lists, none exactly when there is none;
-// counted: the access takes the calls that the operator's accesses to its operands add up to;
-// composed: an operator over two sources is again a source, whose list has exactly the operator's set;
-// searches: a text that is no query is refused with its leftmost fault, and any other is refused or answered as the law says, with the areas left as it says;
-// told: each refusal has its number and place;
-// sets: the list that answers a query has exactly the query's set;
-// few: an answered search counts the calls that it made, at most so many for each term and operator;
-// history: each enter and each search on the logbook is answered as over the ledger of the entries accepted before it, and the
-// logbook then means exactly the accepted entries.
+/// Asks an operator over any two sources for an extent, searches any postings, and puts a list of enters and searches to a new logbook.
+///
+/// It exists for what it promises.
+// Stays: each of the calls has its own parameters here, so that each clause speaks of them as the call's own contract does.
 pub fn search_theorem<A: Source, B: Source, P: Postings>(
+    // An access to an operator over two sources.
     operator: Operator,
     a: &A,
     b: &B,
     access: Access,
     key: u32,
-    book: &mut Logbook,
-    calls: &[Call<'_>],
-    replies: &mut [Reply],
+    // A search of a store of postings.
     postings: &P,
     trace: &[i32],
     text: &[u8],
+    // The calls on a new logbook, and a place for the reply to each.
+    calls: &[Call<'_>],
+    replies: &mut [Reply],
+    // Lent to every search, those on the logbook first.
     stack: &mut [Extent],
     scratch: &mut [Extent],
 ) -> Outcome
-    ensures accesses { Nearest access key (operator_set operator (Members (A.extents a.now)) (Members (B.extents b.now))) result.found.extent }
+    // ACCESSES. The extent found is the one that the access names in the set that the definitions make of the operator over what the
+    // two sources are made of, down to their lists, windows and runs; none exactly when that set has no such extent.
+    ensures accesses { Nearest access key (set_of (composed operator (A.expression a.now) (B.expression b.now))) result.found.extent }
+    // It takes the calls that the operator's accesses to its operands add up to.
     ensures counted { result.found.calls ≡ operator_calls operator (A.extents a.now) (A.calls a.now) (B.extents b.now) (B.calls b.now) access key }
-    ensures composed { (op : Operator) (ls rs : List Extent) → ExtentList ls → ExtentList rs
-        → Lists (operator_set op (Members ls) (Members rs)) (operator_list op ls rs) }
+    // An operator over two sources is a source again: its list has exactly the set of the whole expression, rising.
+    ensures composed { (op : Operator) (x y : Expression) (xs ys : List Extent) → Lists (set_of x) xs → Lists (set_of y) ys
+        → Lists (set_of (composed op x y)) (operator_list op xs ys) }
+    // SEARCHES. A text is read or refused at its leftmost fault; a query is refused exactly where the law says, with the areas cleared,
+    // or answered with the list that has exactly its set, in the calls of the law, at most so many for each term and operator.
     ensures searches { let log = over (P.lists postings.now) trace.now in
-        Searched log (room stack.old scratch.old) text.now result.answer stack.new scratch.new }
-    ensures told { result.refusal ≡ refusal_of result.answer }
-    ensures sets { MeansItsSet (over (P.lists postings.now) trace.now) }
-    ensures few { TakesFewCalls (over (P.lists postings.now) trace.now) }
+        Searched log (room_of (areas stack.old scratch.old)) text.now result.answer (areas stack.new scratch.new) }
+    // A refusal is told by its number and its place.
+    ensures told { result.refusal ≡ refusal_in fault_refusal result.answer }
+    // HISTORIES. As many calls are made on the new logbook as there are places for replies.
     ensures made { result.made ≡ min (length calls.now) (length replies.old) }
-    ensures history { (l : List Entry) → Means book.old l → let made = take result.made (map asked calls.now) in
-        ((left : Areas) × History l (areas stack.old scratch.old) made (take result.made replies.new) left) × Means book.new (ledger_after l made) }
+    // Each is answered, and told, as over the ledger of the entries accepted before it, which is empty at first, a search as above;
+    // the logbook then stands for exactly the accepted entries.
+    ensures history { let requests = take result.made (map request_of calls.now) in
+        (left : Areas) × IsReplayed [] (areas stack.old scratch.old) requests (take result.made replies.new) left result.book }
     ensures rest { drop result.made replies.new ≡ drop result.made replies.old }
+    // Every logbook stands for a ledger of entries that were all accepted in turn, beginning with none.
+    ensures ledger { (b : Book) → HasLedger b }
 {
     let found = evaluate(operator, a, b, access, key);
-    let made = replay(book, calls, replies, stack, scratch);
+    let replayed = replay(calls, replies, stack, scratch);
     let answer = search(postings, trace, text, stack, scratch);
-    let refusal = answer
-        .as_ref()
-        .err()
-        .map(|fault| (fault.number(), fault.place()));
+    let refusal = answer.as_ref().err().map(|fault| fault.refusal());
     Outcome {
         found,
-        made,
         answer,
         refusal,
+        made: replayed.made,
+        book: replayed.book,
     }
 }

@@ -9,12 +9,12 @@ use Rattle.extents.specs.Counts.{capped}
 use Rattle.extents.specs.Extents.{first_start, last_end}
 use Rattle.operators.specs.Listing.{list_calls}
 use Rattle.operators.specs.declared.listing.Listing.{Listing}
-use Rattle.search.specs.Law.{Room}
+use Rattle.search.specs.Law.{Room, Areas}
 use Rattle.search.specs.Meaning.{point}
 use Rattle.search.specs.Searches.{blank, Found, Answers}
 use Rattle.report.specs.declared.fault.ReportFault.{ReportFault}
 use Rattle.report.specs.Quiet.{rev_begin, rev_end, alarm, cut, quiet_of, quiet_reversals}
-use Rattle.report.specs.Law.{quiet_calls, report_calls, report_fault, all_fetched}
+use Rattle.report.specs.Law.{quiet_calls, report_calls, report_fault, fetched_count}
 use Rattle.report.specs.Reports.{Reported}
 use Rattle.report.specs.Sample.{SampleLog, SampleHolds}
 use Rattle.report.proofs.Outcomes.{unrefused}
@@ -60,14 +60,14 @@ module _ (p : PostingLists) (s : SampleLog p) where
   calls_are : report_calls p ≡ 30
   calls_are = over_sample (λ a b x y. total (map point a) (map point b) (map point x) (map point y)) ∙ sample_calls
 
-  slots_are : all_fetched p ≡ 10
+  slots_are : fetched_count p ≡ 10
   slots_are = over_sample (λ a b x y. length (map point a) + length (map point b) + length (map point x) + length (map point y))
 
-pub sample_holds : (p : PostingLists) (room : Room) (r : Result Listing ReportFault) (stack scratch : List Extent) → Reported p room r stack scratch → SampleHolds p room r stack
-sample_holds p room r stack scratch h s u v =
+pub sample_holds : (p : PostingLists) (room : Room) (r : Result Listing ReportFault) (left : Areas) → Reported p room r left → SampleHolds p room r left.stack
+sample_holds p room r left h s u v =
     let q : quiet_reversals p ≡ one = quiet_is p s in
     let none : report_fault p room ≡ None = unrefused p room (omega (arith, slots_are p s, u)) (omega (arith, ap length q, v)) in
-    let found : Found (quiet_reversals p) (report_calls p) room r stack scratch = subst (λ o. Answers (quiet_reversals p) (report_calls p) room o r stack scratch) none h in (
+    let found : Found (quiet_reversals p) (report_calls p) room r left = subst (λ o. Answers (quiet_reversals p) (report_calls p) room o r left) none h in (
       found.answer
           ∙ ap (λ w. Ok (record { n = length w; calls = capped (report_calls p) })) q
           ∙ ap (λ w. Ok (record { n = 1; calls = capped w })) (calls_are p s),

@@ -3,10 +3,13 @@
 --   quiet_calls        the calls of a first start at a key to the composed source of the four stored lists, an access to which takes one call each
 --   next_calls p n     a next for each slot of the name, and one more
 --   report_calls p     the next calls of the four names, and the listing's
---   all_fetched p      how many slots the four names have
+--   fetched_count p    how many slots the four names have
 --   report_fault       more slots than the stack area has room for; then a list longer than the scratch area
-use Rattle.std.specs.Prelude.{ℕ, ◌+◌, cond, List, length, Some, None, Option, nat_lt}
+--   report_refusal     the same by numbers: 22, then 21, else none
+use Rattle.std.specs.Prelude.{ℕ, ◌+◌, if◌then◌else◌, List, length, Some, None, Option, nat_lt}
 use Rattle.postings.specs.Lists.{PostingLists}
+use Rattle.refusals.specs.declared.Refusal.{Refusal}
+use Rattle.refusals.specs.Refusals.{plain}
 use Rattle.extents.specs.declared.access.Access.TheVariants.{FirstStart}
 use Rattle.extents.specs.declared.extent.Extent.{Extent}
 use Rattle.extents.specs.declared.operator.Operator.TheVariants.{NotContaining, OneOf, FollowedBy}
@@ -32,9 +35,13 @@ report_calls p =
     next_calls p rev_begin + next_calls p rev_end + next_calls p alarm + next_calls p cut
     + list_calls (quiet_calls (points p rev_begin) (points p rev_end) (points p alarm) (points p cut)) 0 (quiet_reversals p)
 
-abbrev pub all_fetched : PostingLists → ℕ
-all_fetched p = length (points p rev_begin) + length (points p rev_end) + length (points p alarm) + length (points p cut)
+abbrev pub fetched_count : PostingLists → ℕ
+fetched_count p = length (points p rev_begin) + length (points p rev_end) + length (points p alarm) + length (points p cut)
 
 abbrev pub report_fault : PostingLists → Room → Option ReportFault
 report_fault p room =
-    cond (nat_lt room.stack (all_fetched p)) (Some StackOver) (cond (nat_lt room.scratch (length (quiet_reversals p))) (Some ListingOver) None)
+    if nat_lt room.stack (fetched_count p) then Some StackOver else if nat_lt room.scratch (length (quiet_reversals p)) then Some ListingOver else None
+
+abbrev pub report_refusal : PostingLists → Room → Option Refusal
+report_refusal p room =
+    if nat_lt room.stack (fetched_count p) then Some (plain 22) else if nat_lt room.scratch (length (quiet_reversals p)) then Some (plain 21) else None

@@ -6,11 +6,11 @@ use Rattle.std.specs.Prelude.{List, Result}
 use Rattle.postings.specs.Lists.{PostingLists}
 use Rattle.extents.specs.declared.extent.Extent.{Extent}
 use Rattle.operators.specs.declared.listing.Listing.{Listing}
-use Rattle.search.specs.Law.{Room}
+use Rattle.search.specs.Law.{Room, Areas}
 use Rattle.search.specs.Searches.{Answers}
 use Rattle.report.specs.declared.fault.ReportFault.{ReportFault}
 use Rattle.report.specs.Quiet.{quiet_reversals}
 use Rattle.report.specs.Law.{report_calls, report_fault}
 
-abbrev pub Reported : PostingLists → Room → Result Listing ReportFault → List Extent → List Extent → Type 0
+abbrev pub Reported : PostingLists → Room → Result Listing ReportFault → Areas → Type 0
 Reported p room = Answers (quiet_reversals p) (report_calls p) room (report_fault p room)

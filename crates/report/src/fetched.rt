@@ -1,46 +1,44 @@
-// The slots of the four names, fetched one behind the other.
-ghost use Rattle.std.specs.Prelude.{◌≡◌, ◌+◌, ◌<◌, ◌≤◌, length, MatchResult};
+//! The slots of the four names, fetched one behind the other.
+ghost use Rattle.std.specs.Prelude.{◌≡◌, ◌+◌, ◌<◌, ◌≤◌, length, OnOk, MatchResult};
+ghost use Rattle.extents.specs.Counts.{capped};
 ghost use Rattle.report.specs.declared.fault.ReportFault.TheVariants.{StackOver};
 ghost use Rattle.report.specs.Quiet.{points};
-ghost use Rattle.report.specs.Law.{all_fetched};
+ghost use Rattle.report.specs.Law.{fetched_count, next_calls};
 ghost use Rattle.report.specs.Stored.{IsBehind, IsFetched};
 
 use super::fault::ReportFault;
-use extents::extent::Extent;
-use operators::listing::Listing;
+use extents::{Extent, Tally};
 use postings::Postings;
-use search::fetch::fetch;
+use search::fetch;
 
-// Where the extents of each name end in the area, and the calls that fetched them.
-// Stays: the area is lent, so a name's extents are told by where they end in it.
+/// How many slots each of the four names has, and the calls that fetched them all.
 #[derive(Clone, Copy)]
 pub(crate) struct Fetched {
     pub(crate) begins: usize,
     pub(crate) ends: usize,
     pub(crate) alarms: usize,
     pub(crate) cuts: usize,
-    pub(crate) calls: u64,
+    pub(crate) tally: Tally,
 }
 
 // Stays: the area is lent, and stays a parameter of its own beside the store, a rule of the project.
-// Writes the slots of a name behind the extents fetched so far, and adds its calls to theirs.
+// Writes the slots of a name behind those fetched so far, adds its calls to theirs, and tells how many slots it has.
 fn fetch_behind<P: Postings>(
     postings: &P,
     name: &[u8],
-    earlier: Listing,
+    used: usize,
+    tally: &mut Tally,
     stack: &mut [Extent],
-) -> Result<Listing, ReportFault>
-    requires { earlier.n ≤ length stack.old }
-    ensures { let xs = points (P.lists postings.now) name.now in
-        MatchResult result (IsBehind xs earlier stack.old stack.new) (λ f. (f ≡ StackOver) × (length stack.old < earlier.n + length xs)) }
+) -> Result<usize, ReportFault>
+    requires { used ≤ length stack.old }
+    ensures behind { let xs = points (P.lists postings.now) name.now in
+        MatchResult result (IsBehind xs used stack.old stack.new) (λ f. (f ≡ StackOver) × (length stack.old < used + length xs)) }
+    ensures counted { OnOk result (tally.new.calls ≡ capped (tally.old.calls + next_calls (P.lists postings.now) name.now)) }
 {
-    let used = earlier.n;
     let fetched = fetch(postings, name, &mut stack[used..]);
     let listing = fetched.map_err(|_| ReportFault::StackOver)?;
-    Ok(Listing {
-        n: used + listing.n,
-        calls: earlier.calls.saturating_add(listing.calls),
-    })
+    tally.add(listing.calls);
+    Ok(listing.n)
 }
 
 // Fetches the four names into the area.
@@ -49,18 +47,18 @@ pub(crate) fn fetch_names<P: Postings>(
     stack: &mut [Extent],
 ) -> Result<Fetched, ReportFault>
     ensures { let lists = P.lists postings.now in
-        MatchResult result (IsFetched lists stack.new) (λ f. (f ≡ StackOver) × (length stack.old < all_fetched lists)) }
+        MatchResult result (IsFetched lists stack.new) (λ f. (f ≡ StackOver) × (length stack.old < fetched_count lists)) }
 {
-    let none = Listing { n: 0, calls: 0 };
-    let begins = fetch_behind(postings, b"[rev", none, stack)?;
-    let ends = fetch_behind(postings, b"rev]", begins, stack)?;
-    let alarms = fetch_behind(postings, b"alarm", ends, stack)?;
-    let cuts = fetch_behind(postings, b"cut", alarms, stack)?;
+    let mut tally = Tally::new();
+    let begins = fetch_behind(postings, b"[rev", 0, &mut tally, stack)?;
+    let ends = fetch_behind(postings, b"rev]", begins, &mut tally, stack)?;
+    let alarms = fetch_behind(postings, b"alarm", begins + ends, &mut tally, stack)?;
+    let cuts = fetch_behind(postings, b"cut", begins + ends + alarms, &mut tally, stack)?;
     Ok(Fetched {
-        begins: begins.n,
-        ends: ends.n,
-        alarms: alarms.n,
-        cuts: cuts.n,
-        calls: cuts.calls,
+        begins,
+        ends,
+        alarms,
+        cuts,
+        tally,
     })
 }

@@ -1,7 +1,10 @@
-// The shift report: the reversals of a log in which neither an alarm nor a cut lies.
+//! The shift report: the reversals of a log in which neither an alarm nor a cut lies.
 #![tactic(auto)]
 
-pub mod fault;
+mod fault;
 mod fetched;
 mod listing;
-pub mod report;
+mod reporting;
+
+pub use fault::ReportFault;
+pub use reporting::report;

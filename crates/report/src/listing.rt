@@ -1,14 +1,12 @@
-// `[rev ; rev] !> (alarm | cut)` over four stored lists, as one composed source.
+//! `[rev ; rev] !> (alarm | cut)` over four stored lists, as one composed source.
 ghost use Rattle.operators.specs.Listing.{ListsTo};
 ghost use Rattle.report.specs.Quiet.{quiet_of};
 ghost use Rattle.report.specs.Law.{quiet_calls};
 
-use combination::followed_by::FollowedBy;
-use combination::one_of::OneOf;
-use containment::not_containing::NotContaining;
-use extents::extent::Extent;
-use extents::stored::StoredList;
-use operators::listing::{Listing, Overfull, list_into};
+use combination::{FollowedBy, OneOf};
+use containment::NotContaining;
+use extents::{Extent, StoredList};
+use operators::{Listing, Overfull, list_into};
 
 // Lists the quiet reversals to the front of an area, as far as they fit.
 pub(crate) fn list_quiet(
@@ -23,9 +21,6 @@ pub(crate) fn list_quiet(
         ListsTo (quiet_of bs es xs ys) (quiet_calls bs es xs ys) out.old out.new result }
 {
     // Stays: the operators hold their operands by value, one in the other, a rule of the project.
-    let quiet = NotContaining {
-        a: FollowedBy { a: begins, b: ends },
-        b: OneOf { a: alarms, b: cuts },
-    };
+    let quiet = NotContaining::new(FollowedBy::new(begins, ends), OneOf::new(alarms, cuts));
     list_into(&quiet, out)
 }
