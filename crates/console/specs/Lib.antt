@@ -1,2 +1,7 @@
 pub mod Lines
+pub mod Cuts
 pub mod Commands
+pub mod Replies
+pub mod Runs
+pub mod UnderWay
+pub mod Spoken

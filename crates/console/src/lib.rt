@@ -1,8 +1,19 @@
-// What the programs share: lines of bounded length, and the commands that lines hold.
+//! What the programs share: lines of bounded length, the commands that lines hold, and a run that answers every line of an input.
 #![tactic(auto)]
 
-pub mod command;
-pub mod ending;
-pub mod input;
-pub mod lines;
-pub mod telling;
+mod command;
+mod ending;
+mod lines;
+mod running;
+mod session;
+mod stop;
+mod transit;
+mod writing;
+
+pub use command::{Command, parse};
+pub use ending::end;
+pub use lines::{LINE_MAX, LineBuffer};
+pub use running::run;
+pub use session::Session;
+pub use stop::Stop;
+pub use writing::write_out;

@@ -1,0 +1,4 @@
+pub mod Once
+pub mod Placing
+pub mod Rows
+pub mod Telling
