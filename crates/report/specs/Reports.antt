@@ -2,9 +2,8 @@
 --
 --   Reported   it lists the quiet reversals, after the calls that a report makes, or is refused with the fault that the law gives:
 --              the answer, the stack area and the scratch area are those of a search that lists so
-use Rattle.std.specs.Prelude.{List, Result}
+use Rattle.std.specs.Prelude.{Result}
 use Rattle.postings.specs.Lists.{PostingLists}
-use Rattle.extents.specs.declared.extent.Extent.{Extent}
 use Rattle.operators.specs.declared.listing.Listing.{Listing}
 use Rattle.search.specs.Law.{Room, Areas}
 use Rattle.search.specs.Searches.{Answers}
