@@ -93,6 +93,8 @@ mod tests {
             Ok(()) => assert!(rt; false),
             Err(refusal) => assert_eq!(rt; refusal.number(), 23),
         }
+        let copy = list.clone()?;
+        expect(&rt, &copy, &[(3, 3)], 2)?;
         expect(&rt, &list, &[(3, 3)], 2)
     }
 
