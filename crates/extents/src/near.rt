@@ -5,19 +5,20 @@ ghost use Rattle.std.specs.List.Sorted.{IsPartitionedBy, IsPartitionPoint};
 
 use std::cell::Cell;
 
-/// Where the test ends to hold, as `partition_point` tells it, looked for outward from a hint, in steps that double.
-/// The hint is where the last search ended. No proof knows anything of it: with any number the answer is the same.
-///
-/// That the test may always be called is asked as `partition_point` asks it: a closure's own clauses say when it may be called, and
-/// only its maker sees them. A closure that asks for nothing meets it.
-pub fn partition_near<T, P: FnMut(&T) -> bool>(
+// Where the test ends to hold, as `partition_point` tells it, looked for outward from a hint, in steps that double.
+// The hint is where the last search ended. No proof knows anything of it: with any number the answer is the same.
+//
+// That the test may always be called is asked as `partition_point` asks it: a closure's own clauses say when it may be called, and
+// only its maker sees them. A closure that asks for nothing meets it.
+pub(crate) fn partition_near<T, P: FnMut(&T) -> bool>(
     items: &[T],
     hint: &Cell<usize>,
     mut test: P,
 ) -> usize
     requires { P.IsAlwaysCallable test }
     ensures bound { result ≤ length items.now }
-    ensures partitioned { (p : T → Bool) → ComputesKey P.FnMut p test → IsPartitionedBy p items.now → IsPartitionPoint (λ y. p y ≡ true) (λ y. p y ≡ false) items.now result }
+    ensures partitioned { (p : T → Bool) → ComputesKey P.FnMut p test → IsPartitionedBy p items.now
+        → IsPartitionPoint (λ y. p y ≡ true) (λ y. p y ≡ false) items.now result }
 {
     let mut low = 0;
     let mut high = items.len();
