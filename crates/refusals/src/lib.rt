@@ -64,3 +64,19 @@ impl fmt::Display for Refusal {
         }
     }
 }
+
+#[cfg(test)]
+mod tests {
+    use super::*;
+    use std::test::Fail;
+
+    #[test]
+    fn put_adds_the_text(rt: HostRuntime) -> Result<(), Fail> {
+        let mut out = String::new(rt.alloc());
+        Refusal::plain(23).put(&mut out)?;
+        out.push('\n')?;
+        Refusal::at(17, 5).put(&mut out)?;
+        assert_eq!(rt; out.as_str(), "refused 23\nrefused 17 at 5");
+        Ok(())
+    }
+}
