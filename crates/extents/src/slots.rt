@@ -7,6 +7,7 @@ use std::cell::Cell;
 
 /// What keeps slots: how one is written down.
 pub trait Slots {
+    /// How a slot is written down.
     type Slot;
 
     // The number of a slot.
