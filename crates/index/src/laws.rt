@@ -1,7 +1,7 @@
 //! What sealing, opening and the layout promise together. These calls exist for their contracts: no program makes them.
-ghost use Rattle.std.specs.Prelude.{◌≡◌, ◌↔◌, ℕ, List, true, take, is_ok};
+ghost use Rattle.std.specs.Prelude.{◌≡◌, ◌↔◌, ℕ, List, [], ◌∷◌, true, take, is_ok};
 ghost use Rattle.postings.specs.Shown.{NamedSlots, named_slots};
-ghost use Rattle.index.specs.declared.fields.TheConstants.{VERSION};
+ghost use Rattle.index.specs.declared.fields.TheConstants.{MARK, VERSION, HEAD_SIZE, ROW_SIZE, SLOT_SIZE, NAME_SIZE};
 ghost use Rattle.index.specs.Layout.{Obeys};
 ghost use Rattle.index.specs.Meaning.{posting_lists, meaning};
 ghost use Rattle.index.specs.Reopening.{reopen_answer};
@@ -12,6 +12,16 @@ use super::opening::SealedIndex;
 use super::refusal::SealRefusal;
 use super::sealing::seal;
 use postings::{Postings, RowStore};
+
+/// What the mark and the version of the layout are, and its sizes in bytes.
+pub fn constants()
+    ensures mark { MARK ≡ 83 ∷ 76 ∷ 88 ∷ [] }
+    ensures version { VERSION ≡ 1 }
+    ensures head { HEAD_SIZE ≡ 15 }
+    ensures row { ROW_SIZE ≡ 24 }
+    ensures slot { SLOT_SIZE ≡ 4 }
+    ensures name { NAME_SIZE ≡ 16 }
+{}
 
 /// Bytes obey the layout exactly if they are some postings that fit, written as an index; and they then mean those.
 pub fn one_spelling()

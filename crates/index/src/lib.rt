@@ -10,7 +10,7 @@ mod refusal;
 mod sealing;
 mod writer;
 
-pub use laws::{one_spelling, reopen, seal_both};
+pub use laws::{constants, one_spelling, reopen, seal_both};
 pub use opening::SealedIndex;
 pub use refusal::{OpenRefusal, SealRefusal};
 pub use sealing::{index_size, seal};
