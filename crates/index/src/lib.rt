@@ -10,6 +10,8 @@ mod refusal;
 mod sealing;
 mod writer;
 
+pub use check::judge;
+pub use fields::{HEAD_SIZE, MARK, NAME_SIZE, ROW_SIZE, SLOT_SIZE, VERSION};
 pub use laws::{constants, one_spelling, reopen, seal_both};
 pub use opening::SealedIndex;
 pub use refusal::{OpenRefusal, SealRefusal};

@@ -15,6 +15,7 @@ use super::fields::{HEAD_SIZE, MARK, VERSION};
 use super::parts::{Head, Parts};
 use super::refusal::OpenRefusal;
 use postings::{Postings, first_from};
+use std::alloc::AllocError;
 use std::cell::Cell;
 
 /// The index of no names: its mark, its version, and zeros.
@@ -44,6 +45,25 @@ pub struct SealedIndex<'a> {
     last: Cell<usize>,
     near: Cell<usize>,
     ghost stands: { is_ok (verdict (bytes_in parts)) ≡ true },
+}
+
+/// The same index, with hints of its own; it allocates nothing and always succeeds.
+// By hand, since a struct with a law has no derived clone.
+impl<'a> Clone for SealedIndex<'a> {
+    ghost use Rattle.std.specs.Prelude.{⊤};
+    ghost use Rattle.index.specs.Opened.{bytes_of};
+
+    ghost is_clone = { λ s copy. bytes_of copy ≡ bytes_of s };
+
+    ghost is_infallible = { λ _. ⊤ };
+
+    fn clone(&self) -> Result<SealedIndex<'a>, AllocError> {
+        Ok(SealedIndex {
+            parts: self.parts,
+            last: self.last.clone()?,
+            near: self.near.clone()?,
+        })
+    }
 }
 
 impl<'a> SealedIndex<'a> {

@@ -3,7 +3,7 @@
 
 #[cfg(test)]
 mod tests {
-    use index::{OpenRefusal, SealRefusal, SealedIndex, seal};
+    use index::{OpenRefusal, SealRefusal, SealedIndex, judge, seal};
     use postings::Postings;
     use shift_logbook::Logbook;
     use std::process::Abort;
@@ -116,6 +116,21 @@ mod tests {
         assert_eq!(rt; first(&bytes, b"stone", 0), None);
         assert_eq!(rt; first(b"", b"alarm", 0), None);
         assert_eq!(rt; span(b""), 0);
+    }
+
+    #[test]
+    fn a_clone_answers_as_the_index_does(rt: HostRuntime) -> Result<(), Fail> {
+        let bytes = sample();
+        assert_eq!(rt; judge(&bytes), Ok(()));
+        assert_eq!(rt; judge(&bytes[0..14]), Err(OpenRefusal::Short));
+        let mut index = SealedIndex::new();
+        assert_eq!(rt; index.open(&bytes), Ok(()));
+        let copy = index.clone()?;
+        assert_eq!(rt; copy.next(b"alarm", 12), Some(12));
+        assert_eq!(rt; index.next(b"[rev", 9), Some(14));
+        assert_eq!(rt; copy.next(b"[rev", 9), Some(14));
+        assert_eq!(rt; copy.length(), 19);
+        Ok(())
     }
 
     #[test]
