@@ -216,8 +216,24 @@ verdict_spelled bs octets =
     let s = obeys_spelled bs octets in
     (λ h. s.0 (d.0 h), λ p. d.1 (s.1 p))
 
--- the bytes are a function of what they mean
+-- postings tell the length with which they fit
+length_least : (rs : List NamedSlots) (l m : ℕ) → IsIndexable rs l → IsIndexable rs m → l ≤ m
+length_least rs l m a b =
+    ⊎_elim
+    (λ (h : 0 < l). let p = a.reached h in omega (arith, p.4, b.over p.0 p.1 p.2 p.3))
+    (λ (h : l ≤ 0). omega arith)
+    (cases_lt 0 l)
+
+-- the bytes are a function of the postings
+pub one_form : (cs bs : List ℕ) → Obeys cs → Obeys bs → Bytes cs → Bytes bs → postings_of cs ≡ postings_of bs → cs ≡ bs
+one_form cs bs o q x y e =
+    let rs = postings_of bs in
+    let a = subst (λ ps. IsIndexable ps (span cs)) e (fits cs x o) in
+    let b = fits bs y q in
+    let same : span cs ≡ span bs = omega (arith, length_least rs (span cs) (span bs) a b, length_least rs (span bs) (span cs) b a) in
+    spelled cs x o ∙ ap (λ ps. spelling VERSION ps (span cs)) e ∙ ap (λ l. spelling VERSION rs l) same ∙ sym (spelled bs y q)
+
+-- and so of what they mean
 pub one_meaning : (cs bs : List ℕ) → Obeys cs → Obeys bs → Bytes cs → Bytes bs → meaning cs ≡ meaning bs → cs ≡ bs
 one_meaning cs bs o q x y e =
-    let same = ranked_same (postings_of cs) (postings_of bs) (rows_ranked cs o) (rows_ranked bs q) (λ n. ap (λ (m : PostingLists). m.slots n) e) in
-    spelled cs x o ∙ ap (λ rs. spelling VERSION rs (span cs)) same ∙ ap (λ (m : PostingLists). spelling VERSION (postings_of bs) m.span) e ∙ sym (spelled bs y q)
+    one_form cs bs o q x y (ranked_same (postings_of cs) (postings_of bs) (rows_ranked cs o) (rows_ranked bs q) (λ n. ap (λ (m : PostingLists). m.slots n) e))
