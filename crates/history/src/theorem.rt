@@ -25,7 +25,7 @@ use search::{SearchFault, search};
 use shift_logbook::Logbook;
 
 /// What each of the three groups of calls was answered.
-#[derive(Debug, Drop)]
+#[derive(Clone, Copy, Debug, PartialEq, Eq)]
 pub struct Outcome {
     /// What the access found.
     pub found: Found,
@@ -35,11 +35,10 @@ pub struct Outcome {
     pub refusal: Option<Refusal>,
     /// How many of the calls on a new logbook were made.
     pub made: usize,
-    /// That logbook after them.
-    pub book: Logbook,
 }
 
-/// Asks an operator over any two sources for an extent, searches any postings, and puts a list of enters and searches to a new logbook.
+/// Asks an operator over any two sources for an extent, searches any postings, and puts a list of enters and searches to a new logbook,
+/// which it gives back.
 ///
 /// It exists for what it promises.
 // Stays: each of the calls has its own parameters here, so that each clause speaks of them as the call's own contract does.
@@ -60,28 +59,28 @@ pub fn search_theorem<A: Source, B: Source, P: Postings>(
     // Lent to every search, those on the logbook first.
     stack: &mut [Extent],
     scratch: &mut [Extent],
-) -> Outcome
+) -> (Outcome, Logbook)
     // ACCESSES. The extent found is the one that the access names in the set that the definitions make of the operator over what the
     // two sources are made of, down to their lists, windows and runs; none exactly when that set has no such extent.
-    ensures accesses { Nearest access key (set_of (composed operator (A.expression a.now) (B.expression b.now))) result.found.extent }
+    ensures accesses { Nearest access key (set_of (composed operator (A.expression a.now) (B.expression b.now))) result.0.found.extent }
     // It takes the calls that the operator's accesses to its operands add up to.
-    ensures counted { result.found.calls ≡ operator_calls operator (A.extents a.now) (A.calls a.now) (B.extents b.now) (B.calls b.now) access key }
+    ensures counted { result.0.found.calls ≡ operator_calls operator (A.extents a.now) (A.calls a.now) (B.extents b.now) (B.calls b.now) access key }
     // An operator over two sources is a source again: its list has exactly the set of the whole expression, rising.
     ensures composed { (op : Operator) (x y : Expression) (xs ys : List Extent) → Lists (set_of x) xs → Lists (set_of y) ys
         → Lists (set_of (composed op x y)) (operator_list op xs ys) }
     // SEARCHES. A text is read or refused at its leftmost fault; a query is refused exactly where the law says, with the areas cleared,
     // or answered with the list that has exactly its set, in the calls of the law, at most so many for each term and operator.
     ensures searches { let log = over (P.lists postings.now) trace.now in
-        Searched log (room_of (areas stack.old scratch.old)) text.now result.answer (areas stack.new scratch.new) }
+        Searched log (room_of (areas stack.old scratch.old)) text.now result.0.answer (areas stack.new scratch.new) }
     // A refusal is told by its number and its place.
-    ensures told { result.refusal ≡ refusal_in fault_refusal result.answer }
+    ensures told { result.0.refusal ≡ refusal_in fault_refusal result.0.answer }
     // HISTORIES. As many calls are made on the new logbook as there are places for replies.
-    ensures made { result.made ≡ min (length calls.now) (length replies.old) }
+    ensures made { result.0.made ≡ min (length calls.now) (length replies.old) }
     // Each is answered, and told, as over the ledger of the entries accepted before it, which is empty at first, a search as above;
     // the logbook then stands for exactly the accepted entries.
-    ensures history { let requests = take result.made (map request_of calls.now) in
-        (left : Areas) × IsReplayed [] (areas stack.old scratch.old) requests (take result.made replies.new) left result.book }
-    ensures rest { drop result.made replies.new ≡ drop result.made replies.old }
+    ensures history { let requests = take result.0.made (map request_of calls.now) in
+        (left : Areas) × IsReplayed [] (areas stack.old scratch.old) requests (take result.0.made replies.new) left result.1 }
+    ensures rest { drop result.0.made replies.new ≡ drop result.0.made replies.old }
     // Every logbook stands for a ledger of entries that were all accepted in turn, beginning with none.
     ensures ledger { (b : Book) → HasLedger b }
 {
@@ -89,11 +88,11 @@ pub fn search_theorem<A: Source, B: Source, P: Postings>(
     let replayed = replay(calls, replies, stack, scratch);
     let answer = search(postings, trace, text, stack, scratch);
     let refusal = answer.as_ref().err().map(|fault| fault.refusal());
-    Outcome {
+    let outcome = Outcome {
         found,
         answer,
         refusal,
         made: replayed.made,
-        book: replayed.book,
-    }
+    };
+    (outcome, replayed.book)
 }
