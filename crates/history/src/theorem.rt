@@ -12,11 +12,12 @@ ghost use Rattle.search.specs.Law.{Areas, areas, room_of};
 ghost use Rattle.search.specs.Meaning.{over};
 ghost use Rattle.search.specs.Searches.{Searched};
 ghost use Rattle.shift_logbook.specs.declared.book.Logbook.{Logbook as Book};
-ghost use Rattle.shift_logbook.specs.Books.{HasLedger};
+ghost use Rattle.shift_logbook.specs.Books.{Means, HasLedger};
+ghost use Rattle.shift_logbook.specs.Ledger.{Entry};
 ghost use Rattle.history.specs.Histories.{request_of, IsReplayed};
 
 use super::call::{Call, Reply};
-use super::turn::replay;
+use super::turn::{replay, resume};
 use extents::{Access, Extent, Found, Operator, Source};
 use operators::{Listing, evaluate};
 use postings::Postings;
@@ -35,10 +36,12 @@ pub struct Outcome {
     pub refusal: Option<Refusal>,
     /// How many of the calls on a new logbook were made.
     pub made: usize,
+    /// How many of the same calls on a logbook that was lent were made.
+    pub lent_made: usize,
 }
 
 /// Asks an operator over any two sources for an extent, searches any postings, and puts a list of enters and searches to a new logbook,
-/// which it gives back.
+/// which it gives back, and to one that is lent.
 ///
 /// It exists for what it promises.
 // Stays: each of the calls has its own parameters here, so that each clause speaks of them as the call's own contract does.
@@ -56,7 +59,10 @@ pub fn search_theorem<A: Source, B: Source, P: Postings>(
     // The calls on a new logbook, and a place for the reply to each.
     calls: &[Call<'_>],
     replies: &mut [Reply],
-    // Lent to every search, those on the logbook first.
+    // A logbook on which the same calls are made, and a place for the reply to each.
+    lent: &mut Logbook,
+    lent_replies: &mut [Reply],
+    // Lent to every search, those on the new logbook first, then those on the lent one.
     stack: &mut [Extent],
     scratch: &mut [Extent],
 ) -> (Outcome, Logbook)
@@ -81,11 +87,18 @@ pub fn search_theorem<A: Source, B: Source, P: Postings>(
     ensures history { let requests = take result.0.made (map request_of calls.now) in
         (left : Areas) × IsReplayed [] (areas stack.old scratch.old) requests (take result.0.made replies.new) left result.1 }
     ensures rest { drop result.0.made replies.new ≡ drop result.0.made replies.old }
+    // So it is with the lent logbook, over every ledger that it stands for.
+    ensures lent_made { result.0.lent_made ≡ min (length calls.now) (length lent_replies.old) }
+    ensures lent_history { (l : List Entry) → Means lent.old l
+        → let requests = take result.0.lent_made (map request_of calls.now) in
+        (left : Areas) × IsReplayed l (areas stack.old scratch.old) requests (take result.0.lent_made lent_replies.new) left lent.new }
+    ensures lent_rest { drop result.0.lent_made lent_replies.new ≡ drop result.0.lent_made lent_replies.old }
     // Every logbook stands for a ledger of entries that were all accepted in turn, beginning with none.
     ensures ledger { (b : Book) → HasLedger b }
 {
     let found = evaluate(operator, a, b, access, key);
     let replayed = replay(calls, replies, stack, scratch);
+    let lent_made = resume(lent, calls, lent_replies, stack, scratch);
     let answer = search(postings, trace, text, stack, scratch);
     let refusal = answer.as_ref().err().map(|fault| fault.refusal());
     let outcome = Outcome {
@@ -93,6 +106,7 @@ pub fn search_theorem<A: Source, B: Source, P: Postings>(
         answer,
         refusal,
         made: replayed.made,
+        lent_made,
     };
     (outcome, replayed.book)
 }
