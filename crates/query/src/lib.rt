@@ -11,6 +11,6 @@ mod token;
 
 pub use fault::{ReadFault, TokenFault};
 pub use leaf::Leaf;
-pub use limits::{LEAF_MAX, OPEN_MAX, RUNS_MAX, STEPS_MAX, WINDOWS_MAX};
+pub use limits::{LEAF_MAX, OPEN_MAX, RUNS_MAX, STEPS_MAX, WINDOWS_MAX, query_limits};
 pub use query::{Action, Query, Step};
 pub use reader::read;
