@@ -118,6 +118,7 @@ mod tests {
         assert_eq!(rt; fault(b"a !"), unknown(2));
         assert_eq!(rt; fault(b"a !&b"), unknown(2));
         assert_eq!(rt; fault(b"#"), unknown(0));
+        assert_eq!(rt; fault(b"@"), unknown(0));
         assert_eq!(rt; fault(b"@ 5"), unknown(0));
         assert_eq!(rt; fault(&[0]), unknown(0));
         assert_eq!(rt; fault(&[97, 255]), unknown(1));
