@@ -88,6 +88,7 @@ impl<'a> Reader<'a> {
 ///
 /// # Errors
 /// The text's leftmost fault; of two faults at one token, that with the lower number (docs/queries.md).
+#[tactic(auto, using(crate::proofs::Order::whole_ordered, crate::proofs::Order::whole_few))]
 pub fn read<'a>(text: &'a [u8]) -> Result<Query<'a>, ReadFault>
     ensures outcome { MatchResult result (λ q. Answered text.now q) (λ f. Refuses text.now f) }
     ensures told { ToldAs text.now (refusal_in refusal_of result) }

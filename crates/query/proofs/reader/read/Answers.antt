@@ -1,12 +1,11 @@
-use Rattle.std.proofs.Common.{refl, ◌≡◌, ℕ, ◌≤◌, List, [], ◌++◌, Some, None, Ok, Option, Err, Result, MatchResult, sym, ap, ◌∙◌, subst}
+use Rattle.std.proofs.Common.{refl, ◌≡◌, ℕ, List, [], ◌++◌, Some, None, Ok, Option, Err, Result, MatchResult, ap, ◌∙◌}
 use Rattle.std.proofs.lemmas.Result.{err_from_is_err_and}
 use Rattle.refusals.specs.Refusals.{refusal_in}
 use Rattle.refusals.specs.declared.Refusal.{Refusal}
 use Rattle.query.specs.declared.fault.ReadFault.{ReadFault}
 use Rattle.query.specs.declared.query.Query.{Query}
-use Rattle.query.specs.Expressions.{Expr, Step, postfix, leaves}
+use Rattle.query.specs.Expressions.{Expr, Step, postfix}
 use Rattle.query.specs.Faults.{refusal_of}
-use Rattle.query.specs.Limits.{leaf_max}
 use Rattle.query.specs.Outcomes.{Reads, Refuses}
 use Rattle.query.specs.Answers.{Answered, Complete, Leftmost, Unambiguous, Tells, ToldAs}
 use Rattle.query.specs.Scanning.{token}
@@ -15,7 +14,7 @@ use Rattle.query.proofs.Walk.{fails_after, fails_at, unexpected_last}
 use Rattle.query.proofs.Leftmost.{fails_refuses, walk_reads}
 use Rattle.query.proofs.Once.{reads_once, reads_or_refuses, refuses_once}
 use Rattle.query.proofs.Ranges.{reads_ranged}
-use Rattle.query.proofs.Order.{ordered, says, few_leaves}
+use Rattle.query.proofs.Order.{few_leaves, length-postfix, whole_is}
 use Rattle.query.proofs.reader.read.Goals as goal
 
 -- all that is promised of an answer
@@ -60,20 +59,6 @@ returns-in_err-last c =
     let x = fault_promised (fails_refuses (c.in_err-last.ensures [] refl)) in
     rw (p.1, p.2) (record { outcome = x.outcome; told = x.told; complete = x.complete; leftmost = x.leftmost; unambiguous = x.unambiguous })
 
--- the steps that were stored
-stored : {none all : List Step} (e : Expr) → none ≡ [] → all ≡ none ++ postfix e → all ≡ postfix e
-stored e none adds = adds ∙ ap (λ l. l ++ postfix e) none
-
-pub new-requires-in-End-clause-order : goal.new-requires-in-End-clause-order
-new-requires-in-End-clause-order c = ordered c.in_ok-last.ensures.expr (stored c.in_ok-last.ensures.expr c.new.ensures.none c.in_ok-last.ensures.adds)
-
-pub new-requires-in-End-clause-few : goal.new-requires-in-End-clause-few
-new-requires-in-End-clause-few c =
-    let q = c.in_ok-last.ensures in
-    let last = c.in_ok-last.last in
-    let met = q.next ∙ ap (λ t. token (terminal t) last.place last.after) c.in-End.is in
-    subst (λ e. leaves e ≤ leaf_max) (sym (says q.expr (stored q.expr c.new.ensures.none q.adds))) (few_leaves (walk_reads (q.walked [] refl) met q.parsed))
-
 pub returns-in-End : goal.returns-in-End
 returns-in-End c =
     let q = c.in_ok-last.ensures in
@@ -83,7 +68,9 @@ returns-in-End c =
     let a : Answered c.args.text.now c.new-in-End.result = record {
       expr = q.expr;
       reads = x;
-      order = c.new-in-End.ensures ∙ stored q.expr c.new.ensures.none q.adds;
+      order = c.new-in-End.ensures ∙ whole_is _ _ _ c.new.ensures.none (refl, refl) q;
+      few = few_leaves x;
+      long = length-postfix q.expr;
       ranged = reads_ranged x;
     } in
     let p = read_promised a in
