@@ -242,3 +242,7 @@ unexpected_before os n at after code.Open other shut = absurd (shut refl)
 unexpected_before os n at after code.Close other shut = refl
 unexpected_before os n at after code.End other shut = refl
 unexpected_before os n at after t other shut = absurd other
+
+-- in brackets, a token that goes on with no operator closes them or is misplaced
+pub unclosed : (depth : ℕ) (self r' r'' : Reader) (found last : Located) (os : List Bracket) → Taken self r' found → found.token ≡ code.Open → depth < open_max → ReadQuestion r' r'' (depth + 1) last → (last.token ≡ code.Close → ⊥) → length os ≡ depth → Fails (bytes self) self.at (before_term os self.terms) (Unexpected last.place)
+unclosed depth self r' r'' found last os t is h q unshut n = not_closed depth t is h q (λ us. unexpected_after plain us r''.terms last.place last.after last.token q.other unshut) os n

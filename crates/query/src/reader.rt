@@ -35,7 +35,7 @@ impl<'a> Reader<'a> {
     }
 
     // A term, then operators each with a term; answers the token after them.
-    #[cycle(question_term)]
+    #[cycle(operand_question_term)]
     fn question(&mut self, depth: u8) -> Result<Located<'a>, ReadFault>
         requires sound { Sound self.old }
         requires shallow { depth ≤ open_max }
@@ -49,13 +49,24 @@ impl<'a> Reader<'a> {
                 return Ok(found);
             };
             // One term alone: operators group from the left.
-            self.term(depth)?;
+            self.operand(depth)?;
             self.steps.push(Action::Apply(operator), found.place);
         }
     }
 
+    // An operator's right operand.
+    #[cycle(operand_question_term)]
+    fn operand(&mut self, level: u8) -> Result<(), ReadFault>
+        requires sound { Sound self.old }
+        requires shallow { level ≤ open_max }
+        ensures { MatchResult result (λ _. ReadTerm self.old self.new level) (λ e. Stopped self.old level e) }
+    {
+        self.term(level)
+    }
+
     // A leaf, or a question in brackets.
-    #[cycle(question_term)]
+    #[cycle(operand_question_term)]
+    #[tactic(auto, using(crate::proofs::Walk::unclosed))]
     fn term(&mut self, depth: u8) -> Result<(), ReadFault>
         requires sound { Sound self.old }
         requires shallow { depth ≤ open_max }

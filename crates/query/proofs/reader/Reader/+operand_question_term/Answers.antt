@@ -4,8 +4,8 @@ use Rattle.arrayvec.specs.ArrayVec.{array_vec_len}
 use Rattle.query.specs.Leaves.{leaf_of}
 use Rattle.query.specs.Queries.{steps_so_far}
 use Rattle.query.specs.Expressions.{take_leaf}
-use Rattle.query.proofs.Walk.{sofar_none, so_fails, so_ends, so_fails_term, so_more, fails_token, too_deep, inner_fails, not_closed, closed, unexpected, too_many, one_term, not_operator, unexpected_after, unexpected_before}
-use Rattle.query.proofs.reader.Reader.+question_term.Goals as goal
+use Rattle.query.proofs.Walk.{sofar_none, so_fails, so_ends, so_fails_term, so_more, fails_token, too_deep, inner_fails, closed, unexpected, too_many, one_term, not_operator, unexpected_before}
+use Rattle.query.proofs.reader.Reader.+operand_question_term.Goals as goal
 
 pub question-loop-found-init : goal.question-loop-found-init
 question-loop-found-init t c =
@@ -21,14 +21,14 @@ question-returns-in_err-found t c =
 pub question-returns-in_default : goal.question-returns-in_default
 question-returns-in_default t c = so_ends c.in_ok-term.ensures c.loop-found.invariant c.in_ok-found.ensures.taken (not_operator _ c.in_default.not-Operator)
 
-pub question-returns-in_err-term-2 : goal.question-returns-in_err-term-2
-question-returns-in_err-term-2 t c =
-    let p = err_from_is_err_and c.from_residual-in_err-term-2.result c.from_residual-in_err-term-2.ensures.1 in
-    rw (p.1, p.2) (so_fails_term c.in_ok-term.ensures c.loop-found.invariant c.in_ok-found.ensures.taken c.in-Operator.is c.in_err-term-2.ensures)
+pub question-returns-in_err-operand : goal.question-returns-in_err-operand
+question-returns-in_err-operand t c =
+    let p = err_from_is_err_and c.from_residual-in_err-operand.result c.from_residual-in_err-operand.ensures.1 in
+    rw (p.1, p.2) (so_fails_term c.in_ok-term.ensures c.loop-found.invariant c.in_ok-found.ensures.taken c.in-Operator.is c.in_err-operand.ensures)
 
 pub question-loop-found-preserved : goal.question-loop-found-preserved
 question-loop-found-preserved t c =
-    so_more c.in_ok-term.ensures c.loop-found.invariant c.in_ok-found.ensures.taken c.in-Operator.is c.term-in-loop-found.new.self _ c.in_ok-term-2.ensures refl refl refl c.push.ensures.long c.push.ensures.items
+    so_more c.in_ok-term.ensures c.loop-found.invariant c.in_ok-found.ensures.taken c.in-Operator.is c.operand.new.self _ c.in_ok-operand.ensures refl refl refl c.push.ensures.long c.push.ensures.items
 
 pub term-returns-in_err-found : goal.term-returns-in_err-found
 term-returns-in_err-found t c =
@@ -46,9 +46,6 @@ term-returns-in_err-last t c =
 
 pub term-returns-in-Close : goal.term-returns-in-Close
 term-returns-in-Close t c = closed c.args.depth c.in_ok-found.ensures.taken c.in-Open.is (omega (arith, c.requires.shallow)) c.in_ok-last.ensures c.in-Close.is
-
-pub term-returns-in_default-token : goal.term-returns-in_default-token
-term-returns-in_default-token t c = not_closed c.args.depth c.in_ok-found.ensures.taken c.in-Open.is (omega (arith, c.requires.shallow)) c.in_ok-last.ensures (λ os. unexpected_after _ os _ _ _ _ c.in_ok-last.ensures.other c.in_default-token.not-Close)
 
 pub term-returns-in_default-leaf : goal.term-returns-in_default-leaf
 term-returns-in_default-leaf t c = unexpected c.args.depth c.in_ok-found.ensures.taken (λ os. unexpected_before os _ _ _ _ c.in_default-leaf.ensures c.in_default.not-Open)
