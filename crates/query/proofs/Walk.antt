@@ -1,7 +1,6 @@
 -- How the parts of a reading join. Assumes nothing.
 use Rattle.std.proofs.Common.{◌≡◌, ℕ, ◌+◌, ◌*◌, ◌<◌, ◌≤◌, List, [], ◌∷◌, ◌++◌, length, sym, refl, ap, ◌∙◌, subst, append_assoc, append-nil, arith}
 use Rattle.std.proofs.lemmas.Bool.{cond-true, cond-false, lt-ltb, le-ltb}
-use Rattle.arrayvec.specs.ArrayVec.{array_vec_len}
 use Rattle.extents.specs.declared.operator.Operator.{Operator}
 use Rattle.query.specs.declared.fault.TokenFault.{TokenFault}
 use Rattle.query.specs.declared.fault.ReadFault.{ReadFault}
@@ -44,7 +43,7 @@ pub walks_one : {bs : List ℕ} {p at after : ℕ} {s t : State} {w : Terminal} 
 walks_one met way = step _ _ met way here
 
 taken_long : {r r' : Reader} {f : Located} → Taken r r' f → step_count r' ≡ step_count r
-taken_long t = ap (λ q. array_vec_len q.items) t.steps
+taken_long t = ap (λ q. q.len) t.steps
 
 -- what is said of the reader after a token, said of the reader before it
 pub at_taken : {r r' : Reader} {f : Located} (P : List ℕ → ℕ → ℕ → Type 0) → Taken r r' f → P (bytes r') r'.at r'.terms → P (bytes r) f.after r.terms

@@ -19,7 +19,6 @@
 -- | ReadTerm     | a term was read, and its steps stored, whichever brackets stand open, so many as the depth |
 -- | ReadQuestion | a question was read, its steps stored, and the token after it taken, which is no operator |
 use Rattle.std.specs.Prelude.{◌≡◌, ℕ, ◌+◌, ◌*◌, ◌≤◌, List, ◌++◌, length, Ok, Err, Result}
-use Rattle.arrayvec.specs.ArrayVec.{array_vec_len}
 use Rattle.query.specs.declared.fault.TokenFault.{TokenFault}
 use Rattle.query.specs.declared.fault.ReadFault.{ReadFault}
 use Rattle.query.specs.declared.fault.ReadFault.TheVariants.{Token as held}
@@ -68,7 +67,7 @@ abbrev pub bytes : Reader → List ℕ
 bytes r = r.text.now
 
 abbrev pub step_count : Reader → ℕ
-step_count r = array_vec_len r.steps.items
+step_count r = r.steps.len
 
 pub record Sound (r : Reader) : Type 0 where
   pub within : r.at ≤ length (bytes r)

@@ -1,6 +1,5 @@
 //! A query as it was read: its steps in running order, each with its place in the text.
-ghost use Rattle.std.specs.Prelude.{◌≡◌, ◌+◌, ◌<◌, ◌≤◌, [], ◌∷◌, ◌++◌, length, map};
-ghost use Rattle.arrayvec.specs.ArrayVec.{array_vec_len};
+ghost use Rattle.std.specs.Prelude.{◌≡◌, ◌+◌, ◌<◌, ◌≤◌, [], ◌∷◌, ◌++◌, length, map, take};
 ghost use Rattle.query.specs.Expressions.{postfix, leaves};
 ghost use Rattle.query.specs.Limits.{leaf_max, steps_max};
 ghost use Rattle.query.specs.Postfix.{expr_of};
@@ -8,9 +7,9 @@ ghost use Rattle.query.specs.Steps.{shown, shown_action};
 
 use crate::leaf::Leaf;
 use crate::limits::STEPS_MAX;
-use arrayvec::ArrayVec;
 use extents::Operator;
 use std::alloc::AllocError;
+use std::fmt;
 
 /// What a step does.
 #[derive(Clone, Copy, Debug, PartialEq, Eq)]
@@ -43,10 +42,13 @@ impl<'a> Default for Step<'a> {
     }
 }
 
-// The steps so far.
+// The steps so far: the first `len` items.
 #[derive(Drop)]
 pub(crate) struct Steps<'a> {
-    items: ArrayVec<Step<'a>, STEPS_MAX>,
+    items: [Step<'a>; STEPS_MAX],
+    len: usize,
+    ghost sized: { length items ≡ steps_max },
+    ghost within: { len ≤ steps_max },
 }
 
 impl<'a> Steps<'a> {
@@ -55,45 +57,77 @@ impl<'a> Steps<'a> {
     // No step yet.
     pub(crate) fn new() -> Steps<'a>
         ensures none { steps_so_far result ≡ [] }
-        ensures short { array_vec_len result.items ≡ 0 }
+        ensures short { result.len ≡ 0 }
     {
         Steps {
-            items: ArrayVec::new(),
+            items: [Step::default(); STEPS_MAX],
+            len: 0,
         }
     }
 
     // One more step at the end.
     pub(crate) fn push(&mut self, action: Action<'a>, place: usize)
-        requires { array_vec_len self.old.items < steps_max }
+        requires { self.old.len < steps_max }
         ensures items { steps_so_far self.new ≡ steps_so_far self.old ++ (shown_action action.entry, place) ∷ [] }
-        ensures long { array_vec_len self.new.items ≡ array_vec_len self.old.items + 1 }
+        ensures long { self.new.len ≡ self.old.len + 1 }
     {
-        self.items.push(Step { action, place });
+        self.items[self.len] = Step { action, place };
+        self.len += 1;
     }
 }
 
 /// A query that was read: left operand, right operand, operator. Its steps are always those of one expression within the limits.
-#[derive(Drop, Debug, PartialEq, Eq)]
+#[derive(Copy)]
 pub struct Query<'a> {
-    steps: ArrayVec<Step<'a>, STEPS_MAX>,
-    ghost order: { map shown steps.items ≡ postfix (expr_of (map shown steps.items)) },
-    ghost few: { leaves (expr_of (map shown steps.items)) ≤ leaf_max },
+    // The first `len` of them.
+    steps: [Step<'a>; STEPS_MAX],
+    len: usize,
+    ghost within: { len ≤ steps_max },
+    ghost order: { map shown (take len steps) ≡ postfix (expr_of (map shown (take len steps))) },
+    ghost few: { leaves (expr_of (map shown (take len steps))) ≤ leaf_max },
 }
 
-/// The same steps; it allocates nothing and always succeeds.
-// By hand, since a struct with a law has no derived clone.
+/// The same query; it allocates nothing and always succeeds.
 impl<'a> Clone for Query<'a> {
     ghost use Rattle.std.specs.Prelude.{⊤};
-    ghost use Rattle.query.specs.Queries.{steps};
 
-    ghost is_clone = { λ q copy. steps copy ≡ steps q };
+    ghost is_clone = { λ q copy. copy ≡ q };
 
     ghost is_infallible = { λ _. ⊤ };
 
     fn clone(&self) -> Result<Query<'a>, AllocError> {
-        Ok(Query {
-            steps: self.steps.clone()?,
-        })
+        Ok(*self)
+    }
+}
+
+/// Equal steps.
+impl<'a> PartialEq for Query<'a> {
+    ghost use Rattle.std.specs.Cmp.{on_per};
+    ghost use Rattle.std.specs.Cmp.Lexicographic.{pointwise, lists_per};
+    ghost use Rattle.query.specs.contracts.query.StepPartialEq.TheImpl.Laws as step_eq;
+
+    ghost eq = { λ q r. pointwise ⟦<Step<'a> as PartialEq>⟧.eq (take q.len q.steps) (take r.len r.steps) };
+
+    ghost laws = { on_per (λ q. take q.len q.steps) (lists_per step_eq.laws-law) };
+
+    fn eq(&self, other: &Query<'a>) -> bool {
+        self.steps[..self.len] == other.steps[..other.len]
+    }
+}
+
+impl<'a> Eq for Query<'a> {
+    ghost use Rattle.std.specs.Cmp.{on_equiv};
+    ghost use Rattle.std.specs.Cmp.Lexicographic.{lists_equiv};
+    ghost use Rattle.query.specs.contracts.query.StepEq.TheImpl.Laws as step_eq;
+
+    ghost laws = { on_equiv (λ q. take q.len q.steps) (lists_equiv step_eq.laws-law) };
+}
+
+impl<'a> fmt::Debug for Query<'a> {
+    fn fmt<W: fmt::Write>(&self, f: &mut fmt::Formatter<W>) -> fmt::Result {
+        f.debug_struct("Query")
+            .field("steps", &self.steps())
+            .finish()
     }
 }
 
@@ -106,7 +140,10 @@ impl<'a> Query<'a> {
         requires few { leaves (expr_of (steps_so_far read)) ≤ leaf_max }
         ensures { steps result ≡ steps_so_far read.entry }
     {
-        Query { steps: read.items }
+        Query {
+            steps: read.items,
+            len: read.len,
+        }
     }
 
     /// The steps in running order.
@@ -114,6 +151,6 @@ impl<'a> Query<'a> {
         ensures all { map shown result.now ≡ steps self.now }
         ensures few { length result.now ≤ steps_max }
     {
-        self.steps.as_slice()
+        &self.steps[..self.len]
     }
 }

@@ -92,6 +92,14 @@ mod tests {
     }
 
     #[test]
+    fn a_query_that_was_copied_is_used_again(rt: HostRuntime) {
+        let query = read(b"a ; (b > c)").ok();
+        let copied = query;
+        assert_eq!(rt; copied, query);
+        assert_ne!(rt; copied, read(b"a ; b > c").ok());
+    }
+
+    #[test]
     fn a_refusal_is_printed_by_number_and_place(rt: HostRuntime) -> Result<(), Fail> {
         let heap = rt.alloc();
         assert_eq!(rt; reading(heap, b"a !")?.as_str(), "refused 15 at 2");

@@ -1,10 +1,10 @@
-use Rattle.std.proofs.Common.{refl, ◌≡◌, ℕ, List, [], ◌++◌, Some, None, Ok, Option, Err, Result, MatchResult, ap, ◌∙◌}
+use Rattle.std.proofs.Common.{refl, ◌≡◌, ℕ, List, [], Some, None, Ok, Option, Err, Result, MatchResult, ap, ◌∙◌}
 use Rattle.std.proofs.lemmas.Result.{err_from_is_err_and}
 use Rattle.refusals.specs.Refusals.{refusal_in}
 use Rattle.refusals.specs.declared.Refusal.{Refusal}
 use Rattle.query.specs.declared.fault.ReadFault.{ReadFault}
 use Rattle.query.specs.declared.query.Query.{Query}
-use Rattle.query.specs.Expressions.{Expr, Step, postfix}
+use Rattle.query.specs.Expressions.{Expr, postfix}
 use Rattle.query.specs.Faults.{refusal_of}
 use Rattle.query.specs.Outcomes.{Reads, Refuses}
 use Rattle.query.specs.Answers.{Answered, Complete, Leftmost, Unambiguous, Tells, ToldAs}

@@ -1,6 +1,5 @@
 use Rattle.std.proofs.Common.{◌+◌, [], ◌∷◌, ◌++◌, length, refl, ap, ◌∙◌, arith}
 use Rattle.std.proofs.lemmas.Result.{err_from_is_err_and}
-use Rattle.arrayvec.specs.ArrayVec.{array_vec_len}
 use Rattle.query.specs.Leaves.{leaf_of}
 use Rattle.query.specs.Queries.{steps_so_far}
 use Rattle.query.specs.Expressions.{take_leaf}
@@ -56,4 +55,4 @@ term-returns-then-self-eq-LEAF_MAX t c = too_many c.args.depth c.in_ok-found.ens
 pub term-returns : goal.term-returns
 term-returns t c =
     let taken = c.in_ok-found.ensures.taken in
-    one_term c.args.depth taken _ (leaf_of c.in-Some.leaf) c.in-Some.ensures (omega (arith, c.requires.sound.few, taken.terms)) taken.same taken.moved (ap (λ n. n + 1) taken.terms) (c.push.ensures.long ∙ ap (λ q. array_vec_len q.items + 1) taken.steps) (c.push.ensures.items ∙ ap (λ q. steps_so_far q ++ (take_leaf (leaf_of c.in-Some.leaf), c.in_ok-found.found.place) ∷ []) taken.steps)
+    one_term c.args.depth taken _ (leaf_of c.in-Some.leaf) c.in-Some.ensures (omega (arith, c.requires.sound.few, taken.terms)) taken.same taken.moved (ap (λ n. n + 1) taken.terms) (c.push.ensures.long ∙ ap (λ q. q.len + 1) taken.steps) (c.push.ensures.items ∙ ap (λ q. steps_so_far q ++ (take_leaf (leaf_of c.in-Some.leaf), c.in_ok-found.found.place) ∷ []) taken.steps)
