@@ -3,6 +3,7 @@
 
 mod command;
 mod ending;
+mod law;
 mod lines;
 mod running;
 mod session;
@@ -12,6 +13,7 @@ mod writing;
 
 pub use command::{Command, parse};
 pub use ending::end;
+pub use law::limits;
 pub use lines::{LINE_MAX, LineBuffer};
 pub use running::run;
 pub use session::Session;
