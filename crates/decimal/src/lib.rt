@@ -8,9 +8,9 @@ ghost use Rattle.decimal.specs.Numbers.{number_of};
 pub fn parse(text: &[u8]) -> Option<u32>
     ensures { result ≡ number_of text.now }
 {
-    // The library's `parse` takes a sign too.
+    // The library takes a sign too.
     if text.first() == Some(&b'+') {
         return None;
     }
-    str::from_utf8(text).ok()?.parse().ok()
+    u32::from_str_radix(str::from_utf8(text).ok()?, 10).ok()
 }

@@ -12,4 +12,4 @@ pub returns : goal.returns
 returns c =
     let same : c.in_ok-ok.field-0.now ≡ c.args.text.now = search rules in
     let plain : get_or c.args.text.now 0 0 ≢ 43 = search rules in
-    c.ok-2.ensures.value ∙ parsed c.args.text.now _ (rw same at c.parse.ensures.value.0) plain
+    c.ok-2.ensures.value ∙ parsed c.args.text.now _ (rw same at c.from_str_radix.ensures.value) plain
