@@ -17,5 +17,5 @@ pub use law::limits;
 pub use lines::{LINE_MAX, LineBuffer};
 pub use running::run;
 pub use session::Session;
-pub use stop::Stop;
+pub use stop::{Stop, no_memory};
 pub use writing::write_out;

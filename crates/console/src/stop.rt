@@ -1,5 +1,10 @@
 //! Why a run ends before its input does.
+ghost use Rattle.std.specs.Prelude.{◌≡◌};
+ghost use Rattle.std.specs.IoError.{error_kind};
+ghost use Rattle.std.specs.declared.io.ErrorKind.TheVariants.{OutOfMemory};
+
 use std::error::Error;
+use std::io::ErrorKind;
 use std::{fmt, io};
 
 /// What failed, with its cause.
@@ -21,3 +26,10 @@ impl fmt::Display for Stop {
 }
 
 impl Error for Stop {}
+
+/// That there is no memory, in the words in which an allocation tells it.
+pub fn no_memory() -> io::Error
+    ensures { error_kind result ≡ OutOfMemory }
+{
+    io::Error::new(ErrorKind::OutOfMemory, "memory allocation failed")
+}
