@@ -6,7 +6,7 @@ mod law;
 mod reading;
 
 use answer::answer;
-use anyhow::{Context, anyhow, bail};
+use anyhow::{anyhow, bail};
 use console::end;
 use std::process::ExitCode;
 use std::{env, fs};
@@ -22,7 +22,7 @@ fn file_named(rt: &HostRuntime) -> anyhow::Result<String> {
 
 fn ask_file(rt: &HostRuntime) -> anyhow::Result<()> {
     let path = file_named(rt)?;
-    let bytes = fs::read(rt, path.as_str()).context(format_args!("cannot read {path}"))?;
+    let bytes = fs::read(rt, path.as_str()).map_err(|e| anyhow!("cannot read {path}: {e}"))?;
     let opened = answer(
         rt.alloc(),
         bytes.as_slice(),
