@@ -9,7 +9,7 @@ ghost use Rattle.ask.specs.Asked.{AskedRun, RefusedRun, refused_text};
 
 use super::reading::Reading;
 use answering::Areas;
-use console::{Stop, run, write_out};
+use console::{Stop, no_memory, run, write_out};
 use index::{OpenRefusal, SealedIndex};
 use std::alloc::Global;
 use std::io;
@@ -27,7 +27,7 @@ fn answer_over<R: Read, W: Write>(
 {
     let areas = match Areas::new(heap) {
         Ok(areas) => areas,
-        Err(why) => return Err(Stop::Output(io::Error::from(why))),
+        Err(_) => return Err(Stop::Output(no_memory())),
     };
     let mut reading = Reading { index, areas };
     run(heap, &mut reading, reader, writer)

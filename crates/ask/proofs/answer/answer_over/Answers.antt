@@ -7,7 +7,7 @@ use Rattle.ask.specs.declared.reading.Reading.{Reading}
 use Rattle.ask.proofs.answer.answer_over.Goals as goal
 
 pub returns-in-Err : goal.returns-in-Err
-returns-in-Err g c = spoken_unrun Said postings_then (meaning (bytes_of c.args.index)) c.from.result _ _
+returns-in-Err g c = spoken_unrun Said postings_then (meaning (bytes_of c.args.index)) c.no_memory.result _ _
 
 pub returns : goal.returns
 returns g c =
