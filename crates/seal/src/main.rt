@@ -7,7 +7,7 @@ mod place;
 mod sealing;
 mod shift;
 
-use anyhow::{Context, bail};
+use anyhow::{anyhow, bail};
 use console::end;
 use file::Target;
 use sealing::seal_shift;
@@ -25,9 +25,9 @@ fn file_named(rt: &HostRuntime) -> anyhow::Result<String> {
 
 fn seal_to_file(rt: &HostRuntime) -> anyhow::Result<()> {
     let path = file_named(rt)?;
-    let mut place = Target::at(rt, path.as_str()).context(format_args!("cannot write {path}"))?;
+    let mut place = Target::at(rt, path.as_str()).map_err(|e| anyhow!("cannot write {path}: {e}"))?;
     let put = seal_shift(rt.alloc(), &mut rt.stdin(), &mut rt.stdout(), &mut place)?;
-    put.context(format_args!("cannot write {path}"))
+    put.map_err(|e| anyhow!("cannot write {path}: {e}"))
 }
 
 // Stays: a line each; how a program ends is in `ending`.
