@@ -7,7 +7,7 @@ ghost use Rattle.seal.specs.Shifts.{IsIndexOf, sealed_text, SealedRun, Stays};
 
 use super::place::Place;
 use super::shift::Shift;
-use console::{Stop, run, write_out};
+use console::{Stop, no_memory, run, write_out};
 use index::{index_size, seal};
 use shift_logbook::Logbook;
 use std::alloc::{AllocError, Global};
@@ -58,7 +58,7 @@ pub fn seal_shift<R: Read, W: Write, P: Place>(
     run(heap, &mut shift, reader, writer)?;
     let index = match index_of(heap, &shift.book) {
         Ok(index) => index,
-        Err(why) => return Err(Stop::Output(io::Error::from(why))),
+        Err(_) => return Err(Stop::Output(no_memory())),
     };
     let bytes = index.as_slice();
     match place.put(bytes) {

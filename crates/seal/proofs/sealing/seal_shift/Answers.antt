@@ -15,11 +15,11 @@ returns-in_err-run-clause-stays g c =
 
 pub returns-in-Err-clause-run : goal.returns-in-Err-clause-run
 returns-in-Err-clause-run g c =
-    not_sealed (g.P.Place.bytes c.args.place.now) c.new-shift.result c.new-shift.ensures c.run.new.session _ _ _ _ c.in_ok-run.ensures c.from.result
+    not_sealed (g.P.Place.bytes c.args.place.now) c.new-shift.result c.new-shift.ensures c.run.new.session _ _ _ _ c.in_ok-run.ensures c.no_memory.result
 
 pub returns-in-Err-clause-stays : goal.returns-in-Err-clause-stays
 returns-in-Err-clause-stays g c =
-    stays_unsealed (g.P.Place.bytes c.args.place.now) c.new-shift.result c.new-shift.ensures c.run.new.session _ _ _ _ c.in_ok-run.ensures _ c.from.result (search rules)
+    stays_unsealed (g.P.Place.bytes c.args.place.now) c.new-shift.result c.new-shift.ensures c.run.new.session _ _ _ _ c.in_ok-run.ensures _ c.no_memory.result (search rules)
 
 pub returns-in-Err-put-clause-run : goal.returns-in-Err-put-clause-run
 returns-in-Err-put-clause-run g c =
