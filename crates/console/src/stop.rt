@@ -1,6 +1,6 @@
 //! Why a run ends before its input does.
-ghost use Rattle.std.specs.Prelude.{◌≡◌};
-ghost use Rattle.std.specs.IoError.{error_kind};
+ghost use Rattle.std.specs.Prelude.{◌≡◌, None};
+ghost use Rattle.std.specs.IoError.{error_kind, raw_os_error};
 ghost use Rattle.std.specs.declared.io.ErrorKind.TheVariants.{OutOfMemory};
 
 use std::error::Error;
@@ -29,7 +29,8 @@ impl Error for Stop {}
 
 /// That there is no memory, in the words in which an allocation tells it.
 pub fn no_memory() -> io::Error
-    ensures { error_kind result ≡ OutOfMemory }
+    ensures kind { error_kind result ≡ OutOfMemory }
+    ensures own { raw_os_error result ≡ None }
 {
     io::Error::new(ErrorKind::OutOfMemory, "memory allocation failed")
 }

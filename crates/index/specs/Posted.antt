@@ -33,7 +33,7 @@ get_or_row bs i k l = get_or-map-range_with_len (slot bs) (earlier bs i) (count 
 
 -- ---- the slots of a name by names with their slots: none, or those of one of that name
 
-posted_cases :
+pub posted_cases :
     (rs : List NamedSlots) (n : List ℕ) →
     (slots_for rs n ≡ []) ⊎ ((i : ℕ) × (i < length rs) × ((d : NamedSlots) → ((slice_index_or rs i d).0 ≡ n) × (slots_for rs n ≡ (slice_index_or rs i d).1)))
 posted_cases [] n = inl refl

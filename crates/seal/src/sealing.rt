@@ -73,7 +73,7 @@ pub fn seal_shift<R: Read, W: Write, P: Place>(
 
 #[cfg(test)]
 mod tests {
-    use super::seal_shift;
+    use super::{no_memory, seal_shift};
     use crate::place::Place;
     use std::io;
     use std::io::ErrorKind;
@@ -126,6 +126,14 @@ mod tests {
         let put = seal_shift(rt.alloc(), &mut lines, &mut output, &mut shelf);
         assert!(rt; matches!(put, Ok(Err(_))));
         assert!(rt; output.as_slice() == b"ok\n".as_slice());
+        Ok(())
+    }
+
+    #[test]
+    fn a_want_of_memory_is_told(rt: HostRuntime) -> Result<(), Fail> {
+        let why = no_memory();
+        let text = format!(in rt.alloc(); "{why}")?;
+        assert_eq!(rt; text.as_str(), "memory allocation failed");
         Ok(())
     }
 }

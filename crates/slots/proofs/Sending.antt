@@ -6,10 +6,6 @@ use Rattle.std.proofs.KnownBytes.{Appends-trans, Appends-nil}
 use Rattle.std.specs.Io.KnownBytes.{Appends}
 use Rattle.slots.specs.Checks.{Sends}
 
--- nothing is written
-pub sends_none : (a : Option (List ℕ)) (waits text : List ℕ) → waits ≡ text → Sends a a waits text
-sends_none a waits text e = ([], Appends-nil a, e)
-
 module _ (a b : Option (List ℕ)) (waits text : List ℕ) (s : Sends a b waits text) where
   -- more is spelled
   pub sends_spelled : (now more : List ℕ) → now ≡ waits ++ more → Sends a b now (text ++ more)
