@@ -34,11 +34,10 @@ module _ (s : Windows) where
   none_from i l =
       first_start_none (windows_of s) i (λ y m b. omega (arith, starts_among s.width s.length y (of_member y m)))
 
-  pub last_as_first : (i last : ℕ) → many s.width s.length ≡ last + 1 → last_start (windows_of s) i ≡ first_start (windows_of s) (min last i)
-  last_as_first i last n =
+  pub window_up_to : (i last : ℕ) → many s.width s.length ≡ last + 1 → last_start (windows_of s) i ≡ Some (window s.width (min last i))
+  window_up_to i last n =
       last_start_some (windows_of s) i (window s.width (min last i)) (windows_rise s) (as_member (min last i) (omega arith)) (omega arith)
       (λ y m b. omega (arith, starts_among s.width s.length y (of_member y m)))
-      ∙ sym (window_from (min last i) (omega arith))
 
   pub none_up_to : (i : ℕ) → many s.width s.length ≡ 0 → last_start (windows_of s) i ≡ None
   none_up_to i n =

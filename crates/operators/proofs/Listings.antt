@@ -1,5 +1,5 @@
 -- A listing so far, and one more extent in its area. Assumes nothing.
-use Rattle.std.proofs.Common.{◌≡◌, ℕ, ◌+◌, ◌-◌, ◌^◌, ◌<◌, ◌≤◌, min, List, [], ◌∷◌, ◌++◌, length, take, drop, set, Some, None, refl, sym, ap, ◌∙◌, append_assoc, append-nil, add-one, arith, length-append, take-append-drop, length-set, length-take, drop-drop, take-suc-set, drop-set-lt}
+use Rattle.std.proofs.Common.{◌≡◌, ℕ, ◌+◌, ◌^◌, ◌<◌, ◌≤◌, List, [], ◌∷◌, ◌++◌, length, take, drop, set, Some, None, refl, sym, ap, ◌∙◌, append_assoc, append-nil, add-one, arith, length-append, take-append-drop, length-set, length-take, drop-drop, take-suc-set, drop-set-lt}
 use lib.Seq.{take-length, take-append_seam}
 use Rattle.extents.specs.declared.extent.Extent.{Extent}
 use Rattle.extents.specs.declared.extent.Found.{Found}
@@ -41,24 +41,24 @@ module _ {xs : List Extent} {f : ℕ → ℕ} {was area : List Extent} {n at : �
     then_on : onward at xs ≡ x ∷ onward (x.start + 1) xs
     then_on = onward_some xs at x h is_first
 
-    next_key : (to : ℕ) → to ≡ min (x.start + 1) (2 ^ 32 - 1) → to ≡ x.start + 1
-    next_key to z = omega (arith, mem_proper xs x h (first_start_is xs at x h is_first).0)
+    -- the next key is a number of 32 bits
+    pub next_key : x.start + 1 < 2 ^ 32
+    next_key = omega (arith, mem_proper xs x h (first_start_is xs at x h is_first).0)
 
     -- one more extent was given, and there is room for it
-    pub one_more : (to : ℕ) → n < length area → to ≡ min (x.start + 1) (2 ^ 32 - 1) → Progress xs f was (set area n x) (n + 1) to total
-    one_more to l z =
+    pub one_more : n < length area → Progress xs f was (set area n x) (n + 1) (x.start + 1) total
+    one_more l =
         record {
           within = omega (arith, length-set area n x);
           same = omega (arith, length-set area n x, p.same);
           behind = drop-set-lt (n + 1) area n x (omega arith) ∙ sym (drop-drop 1 n area) ∙ ap (drop 1) p.behind ∙ drop-drop 1 n was;
           left =
-              rw (next_key to z)
-              (ap (λ m. take m (set area n x) ++ onward (x.start + 1) xs) (add-one n)
+              ap (λ m. take m (set area n x) ++ onward (x.start + 1) xs) (add-one n)
               ∙ ap (λ l. l ++ onward (x.start + 1) xs) (take-suc-set area n x l)
               ∙ append_assoc (take n area) (x ∷ []) (onward (x.start + 1) xs)
               ∙ ap (λ l. take n area ++ l) (sym then_on)
-              ∙ p.left);
-          counted = rw (next_key to z) (omega (arith, ap (list_calls f at) then_on, ap (λ v. v.calls) t, p.counted, cost));
+              ∙ p.left;
+          counted = omega (arith, ap (list_calls f at) then_on, ap (λ v. v.calls) t, p.counted, cost);
         }
 
     -- one more was given, and there is no room for it

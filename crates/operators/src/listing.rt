@@ -69,7 +69,7 @@ pub fn list_into<F: FirstStarts>(starts: &F, out: &mut [Extent]) -> Result<Listi
         }
         out[n] = x;
         n += 1;
-        at = x.start.saturating_add(1);
+        at = x.start + 1;
     }
     Ok(Listing {
         n,

@@ -1,13 +1,14 @@
 //! What waits for its operator: extents that are stored, or a source that is not; and either as a source.
 ghost use Rattle.std.specs.Prelude.{◌≡◌};
 ghost use Rattle.extents.specs.Extents.{ExtentList};
-ghost use Rattle.operators.specs.Listing.{ListsOperator};
+ghost use Rattle.extents.specs.declared.access.Access.TheVariants.{FirstStart};
+ghost use Rattle.operators.specs.Listing.{ListsOperator, ListsTo};
 ghost use Rattle.search.specs.Law.{each_one};
 ghost use Rattle.search.specs.Run.{pending_of, size};
 ghost use Rattle.search.specs.Sides.{side_list, side_expression};
 
 use extents::{Extent, Found, Operator, Ordered, Source, StoredList, TraceRuns, Windows};
-use operators::{Listing, Overfull, list_operator};
+use operators::{Listing, Overfull, list_into, list_operator};
 
 /// An operand as a source.
 #[derive(Drop)]
@@ -17,7 +18,8 @@ pub(crate) enum Side<'a> {
     Runs(TraceRuns<'a>),
 }
 
-// Stays: a line for each kind of source in each access.
+// Stays: a line for each kind of source in each access; it exists for its contract, that an operand of any kind is a source. Listings
+// tell the kind once (`list_side`, `list_sides`), since windows take up to eleven times as long where each access tells it.
 impl Source for Side<'_> {
     ghost use Rattle.search.specs.SideLaws.{side_means};
 
@@ -62,36 +64,49 @@ impl Source for Side<'_> {
     }
 }
 
-/// Lists an operator over a source and an operand.
-fn list_with_right<A: Source>(
-    operator: Operator,
-    left: &A,
-    right: &Side<'_>,
-    out: &mut [Extent],
-) -> Result<Listing, Overfull>
-    ensures { ListsOperator operator (A.extents left.now) (A.calls left.now) (side_list right.now) each_one out.old out.new result }
+/// Lists an operand.
+// By itself, as is `list_with_right`: with more in one body, what a walk counts leaves the registers.
+#[inline(never)]
+pub(crate) fn list_side(side: Side<'_>, out: &mut [Extent]) -> Result<Listing, Overfull>
+    ensures { ListsTo (side_list side.entry) (each_one FirstStart) out.old out.new result }
 {
-    match right {
-        Side::Stored(list) => list_operator(operator, left, list, out),
-        Side::Windows(windows) => list_operator(operator, left, windows, out),
-        Side::Runs(runs) => list_operator(operator, left, runs, out),
+    match side {
+        Side::Stored(list) => list_into(&list, out),
+        Side::Windows(windows) => list_into(&windows, out),
+        Side::Runs(runs) => list_into(&runs, out),
     }
 }
 
-/// Lists an operator over two operands: their kinds are told once, not at each access.
-// Stays: each pair of kinds has code of its own; one operator over two `Side`s takes up to eleven times as long over windows.
-pub(crate) fn list_sides(
+/// Lists an operator over a source and an operand.
+#[inline(never)]
+fn list_with_right<A: Source>(
     operator: Operator,
-    left: &Side<'_>,
-    right: &Side<'_>,
+    left: &A,
+    right: Side<'_>,
     out: &mut [Extent],
 ) -> Result<Listing, Overfull>
-    ensures { ListsOperator operator (side_list left.now) each_one (side_list right.now) each_one out.old out.new result }
+    ensures { ListsOperator operator (A.extents left.now) (A.calls left.now) (side_list right.entry) each_one out.old out.new result }
+{
+    match right {
+        Side::Stored(list) => list_operator(operator, left, &list, out),
+        Side::Windows(windows) => list_operator(operator, left, &windows, out),
+        Side::Runs(runs) => list_operator(operator, left, &runs, out),
+    }
+}
+
+/// Lists an operator over two operands.
+pub(crate) fn list_sides(
+    operator: Operator,
+    left: Side<'_>,
+    right: Side<'_>,
+    out: &mut [Extent],
+) -> Result<Listing, Overfull>
+    ensures { ListsOperator operator (side_list left.entry) each_one (side_list right.entry) each_one out.old out.new result }
 {
     match left {
-        Side::Stored(list) => list_with_right(operator, list, right, out),
-        Side::Windows(windows) => list_with_right(operator, windows, right, out),
-        Side::Runs(runs) => list_with_right(operator, runs, right, out),
+        Side::Stored(list) => list_with_right(operator, &list, right, out),
+        Side::Windows(windows) => list_with_right(operator, &windows, right, out),
+        Side::Runs(runs) => list_with_right(operator, &runs, right, out),
     }
 }
 

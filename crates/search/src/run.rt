@@ -17,10 +17,10 @@ ghost use Rattle.search.specs.Stacks.{SomeStacked, TakesOff, Does, Stores, Gives
 
 use super::fault::SearchFault;
 use super::fetching::fetch;
-use super::operand::{Operand, Side, list_sides};
+use super::operand::{Operand, Side, list_side, list_sides};
 use super::stack::OperandStack;
 use extents::{Extent, Operator, TraceRuns, Windows};
-use operators::{Listing, Overfull, list_into};
+use operators::{Listing, Overfull};
 use postings::Postings;
 use query::{Action, Leaf, Query, Step};
 
@@ -118,7 +118,7 @@ fn put_operator(
     }
     let right = take_off(waiting, stack);
     let left = take_off(waiting, stack);
-    let listed = list_sides(operator, &left, &right, scratch);
+    let listed = list_sides(operator, left, right, scratch);
     store(listed, place, waiting, stack, scratch)
 }
 
@@ -165,7 +165,7 @@ fn settle(
 {
     if let Some(Operand::Unstored(_)) = waiting.operands.last() {
         let side = take_off(waiting, stack);
-        let listed = list_into(&side, scratch);
+        let listed = list_side(side, scratch);
         return store(listed, place, waiting, stack, scratch);
     }
     Ok(())

@@ -10,8 +10,8 @@ use Rattle.search.proofs.Steps.{off_untouched, settle_done}
 use Rattle.search.proofs.run.settle.Goals as goal
 
 -- the source's list is stored
-stored : (c : goal.After-stack-1) → Stores (side_list c.take_off-side.result) (each_one FirstStart) c.args.place c.args.scratch.now c.list_into-listed.new.out c.take_off-side.new.waiting c.args.stack.now c.store.result c.store.new.waiting c.store.new.stack
-stored c = c.store.ensures _ _ c.args.scratch.now (side_means c.take_off-side.result).0 c.list_into-listed.ensures
+stored : (c : goal.After-stack-1) → Stores (side_list c.take_off-side.result) (each_one FirstStart) c.args.place c.args.scratch.now c.list_side-listed.new.out c.take_off-side.new.waiting c.args.stack.now c.store.result c.store.new.waiting c.store.new.stack
+stored c = c.store.ensures _ _ c.args.scratch.now (side_means c.take_off-side.result).0 c.list_side-listed.ensures
 
 pub returns-in-Some-Unstored-clause-does : goal.returns-in-Some-Unstored-clause-does
 returns-in-Some-Unstored-clause-does c ps n h =
